@@ -1,0 +1,37 @@
+-- The kind `drift`: prices in sixty-fourths of a pixel; a total is the largest price, zero if there is none.
+use mathlib.Core.Bool.{Bool}
+use Prim.Native.Nat.{ℕ, max}
+use lib.Dec.{leb}
+use Rattle.price.specs.Kind.{Operations}
+use Rattle.price.specs.Forms.{Forms, number32, bytes32, only}
+use Rattle.price.specs.declared.bottleneck.Drift.{Drift}
+
+-- the largest price, and the largest budget
+abbrev pub largest : ℕ
+largest = 65535
+
+abbrev pub of : ℕ → Drift
+of n = record { 0 = n }
+
+abbrev pub admitted : Drift → Bool
+admitted x = leb (x .0) largest
+
+abbrev pub operations : Operations Drift
+operations = record {
+  zero = of 0;
+  plus = λ x y. of (max (x .0) (y .0));
+  added = λ x y. of (max (x .0) (y .0));
+  notAbove = λ x y. leb (x .0) (y .0);
+  price = admitted;
+  budget = admitted;
+}
+
+-- code 2; unsigned
+abbrev pub forms : Forms Drift
+forms = record {
+  code = 2;
+  priceForm = λ x. bytes32 (x .0);
+  priceOf = λ bs. only admitted (of (number32 bs));
+  budgetForm = λ x. bytes32 (x .0);
+  budgetOf = λ bs. only admitted (of (number32 bs));
+}

@@ -1,0 +1,4 @@
+pub mod Kind
+pub mod Forms
+pub mod Additive
+pub mod Bottleneck
