@@ -31,7 +31,7 @@ lawful = record {
 
 tied : Tied admitted (λ x. bytes32 (x .0)) (λ bs. only admitted (of (number32 bs)))
 tied = record {
-  long = λ x t. four-bytes (x .0);
+  long = λ x. four-bytes (x .0);
   back = λ x t.
       let small : x .0 < 2 ^ 32 = omega (arith, leb→le (x .0) (65535) t) in
       ap (λ n. only admitted (of n)) (number-of-bytes (x .0) small) ∙ only-yes admitted x t;

@@ -101,7 +101,7 @@ module _ (low high : ℤ) (above : least32 ≤ℤ low) (below : high ≤ℤ most
 
   tied : Tied (λ x. within low high (x .0)) (λ x. bytes32 (ofZ w32 (x .0))) (λ bs. only (λ x. within low high (x .0)) (of (toZ w32 (number32 bs))))
   tied = record {
-    long = λ x t. four-bytes (ofZ w32 (x .0));
+    long = λ x. four-bytes (ofZ w32 (x .0));
     back = λ x t.
         let f = fits-within x t in
         let number = number-of-bytes (ofZ w32 (x .0)) (bits-below (x .0) f) in

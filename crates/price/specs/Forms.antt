@@ -33,9 +33,9 @@ pub record Forms (A : Type 0) : Type 0 where
 abbrev pub only : {A : Type 0} → (A → Bool) → A → Option A
 only admitted x = cond (admitted x) (Some x) None
 
--- One sort of amount, prices or budgets: each admitted one has one form of four bytes, which reads back to it, and every other four bytes are none.
+-- One sort of amount, prices or budgets: a form is four bytes, each admitted amount's form reads back to it, and every other four bytes are none.
 pub record Tied {A : Type 0} (admitted : A → Bool) (form : A → List ℕ) (reads : List ℕ → Option A) : Type 0 where
-  pub long : (x : A) → T (admitted x) → Four (form x)
+  pub long : (x : A) → Four (form x)
   pub back : (x : A) → T (admitted x) → reads (form x) ≡ Some x
   pub sole : (bs : List ℕ) (x : A) → Four bs → reads bs ≡ Some x → T (admitted x) × (form x ≡ bs)
 

@@ -1,0 +1,115 @@
+//! The check of a link file, part by part.
+ghost use mathlib.Core.Bool.{_||_};
+ghost use mathlib.Core.Path.{_≡_};
+ghost use Prim.Native.Nat.{ℕ, _+_, _*_, _≤_, _<_};
+ghost use lib.ListN.{length, getD, drop};
+ghost use Rattle.std.specs.Results.{Cases};
+ghost use Rattle.std.specs.declared.option.Option.the-variants.{Some, None};
+ghost use Rattle.price.specs.Forms.{Storable};
+ghost use Rattle.table.specs.declared.refusals.FileFault.the-variants.{Record};
+ghost use Rattle.link_file.specs.Check.{firstFault, endsWrong, longest, frameCases, contentCases, recordCases, recordsCases, answer, Whole};
+ghost use Rattle.link_file.specs.Format.{headerLength, recordLength, recordCount, number16, four};
+use price::StorableKind;
+use table::MOST_LINKS;
+use table::MOST_POINTS;
+use table::refusals::FileFault;
+use table::refusals::FileFaultFromRecord;
+use table::refusals::RecordFault;
+
+/// The bytes before the first record.
+pub const HEADER: usize = 12;
+
+/// The bytes of a record.
+pub const RECORD: usize = 10;
+
+/// The bytes of the longest file.
+pub const LONGEST: usize = 20_492;
+
+// What the header holds besides the frame.
+#[derive(Clone, Copy)]
+pub(crate) struct Header<K> {
+    pub(crate) points: u16,
+    pub(crate) budget: K,
+}
+
+// Size, version, length field and kind's code.
+pub(crate) fn check_frame<K: StorableKind>(bytes: &[u8]) -> Result<(), FileFault>
+    ensures value { λ r. ⌜ r ≡ answer (firstFault (frameCases forms (now (bytes .entry)))) ⌝ }
+    ensures storable { λ _. ⌜ Storable (K·PriceKind .operations) forms ⌝ }
+{
+    let code = K::code();
+    if bytes.len() < HEADER || bytes.len() > LONGEST {
+        return Err(FileFault::Size);
+    }
+    if bytes[0] != 1 {
+        return Err(FileFault::Version);
+    }
+    let after = u32::from_be_bytes([bytes[1], bytes[2], bytes[3], bytes[4]]);
+    if after as usize != bytes.len() - 5 {
+        return Err(FileFault::LengthField);
+    }
+    if bytes[5] != code {
+        return Err(FileFault::Kind);
+    }
+    Ok(())
+}
+
+// Whether two ends do not suit a table of so many points.
+fn ends_wrong(points: u16, first: u16, second: u16) -> bool
+    ensures { λ r. ⌜ r ≡ endsWrong points first second ⌝ }
+{
+    first >= points || second >= points || first == second
+}
+
+// Point count and budget, and that the links are whole records, of a file whose frame is right.
+pub(crate) fn check_content<K: StorableKind>(bytes: &[u8]) -> Result<Header<K>, FileFault>
+    requires { ⌜ firstFault (frameCases forms (now bytes)) ≡ None ⌝ }
+    ensures { λ r. ⌜ Cases r (λ h. (firstFault (contentCases forms (now (bytes .entry))) ≡ None) × (h .points ≡ number16 (now (bytes .entry)) 6) × (forms .budgetOf (four (now (bytes .entry)) 8) ≡ Some (h .budget))) (λ e. firstFault (contentCases forms (now (bytes .entry))) ≡ Some e) ⌝ }
+{
+    let points = u16::from_be_bytes([bytes[6], bytes[7]]);
+    if points == 0 || points > MOST_POINTS {
+        return Err(FileFault::PointCount);
+    }
+    let Some(budget) = K::budget_of([bytes[8], bytes[9], bytes[10], bytes[11]]) else {
+        return Err(FileFault::Budget);
+    };
+    if (bytes.len() - HEADER) % RECORD != 0 {
+        return Err(FileFault::Records);
+    }
+    Ok(Header { points, budget })
+}
+
+// The record at the front of `bytes`, which stands at a place of the file.
+pub(crate) fn check_record<K: StorableKind>(bytes: &[u8], at: usize, points: u16) -> Result<(), RecordFault>
+    requires { ⌜ recordLength ≤ length (now bytes) ⌝ ∗ ⌜ at + recordLength ≤ longest ⌝ }
+    ensures { λ r. ⌜ Cases r (λ _. firstFault (recordCases forms points at (now (bytes .entry))) ≡ None) (λ e. firstFault (recordCases forms points at (now (bytes .entry))) ≡ Some (Record e)) ⌝ }
+{
+    if bytes[0] != 9 {
+        return Err(RecordFault::Length(at));
+    }
+    let first = u16::from_be_bytes([bytes[1], bytes[2]]);
+    let second = u16::from_be_bytes([bytes[3], bytes[4]]);
+    if ends_wrong(points, first, second) {
+        return Err(RecordFault::Ends(at + 1));
+    }
+    if bytes[5] > 2 {
+        return Err(RecordFault::Mark(at + 5));
+    }
+    if K::price_of([bytes[6], bytes[7], bytes[8], bytes[9]]).is_none() {
+        return Err(RecordFault::Price(at + 6));
+    }
+    Ok(())
+}
+
+// The records of a file whose header is right.
+pub(crate) fn check_records<K: StorableKind>(bytes: &[u8], points: u16) -> Result<(), FileFault>
+    requires { ⌜ Whole (now bytes) ⌝ }
+    ensures { λ r. ⌜ r ≡ answer (firstFault (recordsCases forms points (recordCount (now (bytes .entry))) headerLength (drop headerLength (now (bytes .entry))))) ⌝ }
+{
+    let count = (bytes.len() - HEADER) / RECORD;
+    for number in 0..count {
+        let at = HEADER + RECORD * number;
+        check_record::<K>(&bytes[at..], at, points)?;
+    }
+    Ok(())
+}

@@ -1,0 +1,38 @@
+//! Kinds whose amounts are printed.
+ghost use mathlib.Core.Path.{_≡_};
+ghost use lib.IntN.{ℤ, pos};
+use price::StorableKind;
+use price::additive::Bytes;
+use price::additive::BytesForms;
+use price::bottleneck::Drift;
+use price::bottleneck::DriftForms;
+
+/// A storable kind whose amounts are printed as whole numbers.
+pub trait ListedKind: StorableKind {
+    /// The number that is printed for an amount.
+    ghost amount: { Self → ℤ };
+
+    /// The number that is printed for this amount.
+    fn amount(self) -> i64
+        ensures { λ r. ⌜ r ≡ amount self ⌝ };
+}
+
+/// Prints the number of bytes.
+pub impl ListedKind for Bytes as BytesListed {
+    ghost amount = { λ x. x .0 };
+
+    fn amount(self) -> i64 {
+        let Bytes(bytes) = self;
+        i64::from(bytes)
+    }
+}
+
+/// Prints the number of sixty-fourths of a pixel.
+pub impl ListedKind for Drift as DriftListed {
+    ghost amount = { λ x. pos (x .0) };
+
+    fn amount(self) -> i64 {
+        let Drift(parts) = self;
+        i64::from(parts)
+    }
+}
