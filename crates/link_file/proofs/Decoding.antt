@@ -6,7 +6,7 @@ use Prim.Native.Nat.{ℕ, zero, suc, _+_, _-_, _*_, _/_, _%_, _<_, _≤_}
 use native.Mathlib.Omega.{arith}
 use lib.Dec.{T, eqb, ltb, eqb→eq}
 use lib.ListN.{length, getD, drop}
-use Rattle.std.proofs.shelf.Lists.{getD-drop, length-drop}
+use Rattle.std.proofs.shelf.Lists.{getD-drop, length-drop, drop-drop}
 use Rattle.std.specs.Finite.{nth}
 use Rattle.std.specs.Joined.{joined}
 use Rattle.std.specs.Options.{isSome, valueOr}
@@ -24,7 +24,7 @@ use Rattle.table.specs.declared.refusals.FileFault.{FileFault}
 use Rattle.link_file.specs.Check.{Case, firstFault, endsWrong, frameCases, contentCases, recordCases, recordsCases, longest, shortest}
 use Rattle.link_file.specs.Format.{headerLength, recordLength, recordCount, number16, bytes16, four, recordBytes, headerBytes, fileBytes, linkAt, linksOf, fileTable, fileBudget}
 use Rattle.link_file.specs.Reading.{readerTable, Filled}
-use Rattle.link_file.specs.declared.reader.Reader.{Reader}
+use Rattle.link_file.specs.declared.input.Reader.{Reader}
 use denote.Ref.{now}
 use Rattle.link_file.proofs.Cells.{cells, cells-drop, pair-of-number}
 use Rattle.link_file.proofs.Faults.{append-none, none-left, none-apply}
@@ -71,6 +71,10 @@ none-carried n h = omega arith
 
 few-links : (n count m : ℕ) → n ≤ 20492 → n ≡ 12 + 10 * count → m ≡ count → m ≤ 2048
 few-links n count m h e d = omega arith
+
+pub length-links : {K : Type 0} (f : Forms K) (nothing : K) (n : ℕ) (bs : List ℕ) → length (linksOf f nothing n bs) ≡ n
+length-links f nothing zero bs = refl
+length-links f nothing (suc n) bs = ap suc (length-links f nothing n (drop recordLength bs))
 
 module _ {K : Type 0} (o : Operations K) (f : Forms K) (storable : Storable o f) where
   -- a form that is some amount's
@@ -161,10 +165,6 @@ module _ {K : Type 0} (o : Operations K) (f : Forms K) (storable : Storable o f)
       ∙ ap (λ t. cells bs 0 10 ++ t) (records-again points n (at + recordLength) (drop recordLength bs) (small-drop recordLength bs small) shorter rest)
       ∙ sym (cells-drop bs 10 0 enough)
 
-  pub length-links : (n : ℕ) (bs : List ℕ) → length (linksOf f (o .zero) n bs) ≡ n
-  length-links zero bs = refl
-  length-links (suc n) bs = ap suc (length-links n (drop recordLength bs))
-
   -- what the cases of the whole say where none applies
   pub record Header (bs : List ℕ) : Type 0 where
     pub long : shortest ≤ length bs
@@ -222,7 +222,7 @@ module _ {K : Type 0} (o : Operations K) (f : Forms K) (storable : Storable o f)
       file-lawful = record {
         some = header .some;
         few = header .few;
-        short = few-links (length bs) (recordCount bs) (length (linksOf f (o .zero) (recordCount bs) (drop headerLength bs))) (header .short) (header .records) (length-links (recordCount bs) (drop headerLength bs));
+        short = few-links (length bs) (recordCount bs) (length (linksOf f (o .zero) (recordCount bs) (drop headerLength bs))) (header .short) (header .records) (length-links f (o .zero) (recordCount bs) (drop headerLength bs));
         each = records-lawful (number16 bs 6) (recordCount bs) headerLength (drop headerLength bs) (small-drop headerLength bs small) right;
         carries = 0;
         total = none;
@@ -233,7 +233,7 @@ module _ {K : Type 0} (o : Operations K) (f : Forms K) (storable : Storable o f)
       file-again =
           let rest : length (drop headerLength bs) ≡ recordLength * recordCount bs = rw length-drop (omega (arith, header .records)) in
           let enough : 0 + 12 ≤ length bs = header .long in
-          ap (λ n. headerBytes f n (number16 bs 6) (fileBudget f (o .zero) bs) ++ joined (recordBytes f) (linksOf f (o .zero) (recordCount bs) (drop headerLength bs))) (length-links (recordCount bs) (drop headerLength bs))
+          ap (λ n. headerBytes f n (number16 bs 6) (fileBudget f (o .zero) bs) ++ joined (recordBytes f) (linksOf f (o .zero) (recordCount bs) (drop headerLength bs))) (length-links f (o .zero) (recordCount bs) (drop headerLength bs))
           ∙ ap (λ t. t ++ joined (recordBytes f) (linksOf f (o .zero) (recordCount bs) (drop headerLength bs))) header-again
           ∙ ap (λ t. cells bs 0 12 ++ t) (records-again (number16 bs 6) (recordCount bs) headerLength (drop headerLength bs) (small-drop headerLength bs small) rest right)
           ∙ sym (cells-drop bs 12 0 enough)
@@ -259,3 +259,13 @@ module _ {K : Type 0} (o : Operations K) (f : Forms K) (storable : Storable o f)
         admitted = subst (λ b. T (o .budget b)) (sym limit) (budget-admitted bs small header records);
         again = ap (λ t. fileBytes f t (r .budget)) table ∙ ap (fileBytes f (fileTable f (o .zero) bs)) limit ∙ file-again bs small header records;
       }
+
+-- a link by its record's place
+pub nth-links : {K : Type 0} (f : Forms K) (nothing : K) (n i : ℕ) (bs : List ℕ) → i < n → nth (linksOf f nothing n bs) i ≡ Some (linkAt f nothing (drop (recordLength * i) bs))
+nth-links f nothing zero i bs h = absurd (omega arith)
+nth-links f nothing (suc n) zero bs h = refl
+nth-links f nothing (suc n) (suc i) bs h =
+    let e : recordLength + recordLength * i ≡ recordLength * suc i = omega arith in
+    let k : i < n = omega arith in
+    nth-links f nothing n i (drop recordLength bs) k
+    ∙ ap (λ t. Some (linkAt f nothing t)) (drop-drop (recordLength * i) recordLength bs ∙ ap (λ m. drop m bs) e)

@@ -11,7 +11,7 @@ use Rattle.price.specs.Forms.{Forms}
 use Rattle.table.specs.Table.{Table, Lawful}
 use Rattle.link_file.specs.Format.{headerLength, linksOf, recordCount, fileTable, fileBudget, fileBytes}
 use Rattle.link_file.specs.Check.{checked}
-use Rattle.link_file.specs.declared.reader.Reader.{Reader}
+use Rattle.link_file.specs.declared.input.Reader.{Reader}
 
 module _ {K : Type 0} (o : Operations K) (f : Forms K) where
   -- the table that a reader stands for

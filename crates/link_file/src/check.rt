@@ -17,13 +17,13 @@ use table::refusals::FileFaultFromRecord;
 use table::refusals::RecordFault;
 
 /// The bytes before the first record.
-pub const HEADER: usize = 12;
+pub(crate) const HEADER: usize = 12;
 
 /// The bytes of a record.
-pub const RECORD: usize = 10;
+pub(crate) const RECORD: usize = 10;
 
 /// The bytes of the longest file.
-pub const LONGEST: usize = 20_492;
+pub const LONGEST: usize = HEADER + RECORD * MOST_LINKS;
 
 // What the header holds besides the frame.
 #[derive(Clone, Copy)]
@@ -80,7 +80,11 @@ pub(crate) fn check_content<K: StorableKind>(bytes: &[u8]) -> Result<Header<K>, 
 }
 
 // The record at the front of `bytes`, which stands at a place of the file.
-pub(crate) fn check_record<K: StorableKind>(bytes: &[u8], at: usize, points: u16) -> Result<(), RecordFault>
+pub(crate) fn check_record<K: StorableKind>(
+    bytes: &[u8],
+    at: usize,
+    points: u16,
+) -> Result<(), RecordFault>
     requires { ⌜ recordLength ≤ length (now bytes) ⌝ ∗ ⌜ at + recordLength ≤ longest ⌝ }
     ensures { λ r. ⌜ Cases r (λ _. firstFault (recordCases forms points at (now (bytes .entry))) ≡ None) (λ e. firstFault (recordCases forms points at (now (bytes .entry))) ≡ Some (Record e)) ⌝ }
 {

@@ -13,11 +13,11 @@ use Rattle.listing.specs.declared.text.Line.{Line}
 take-again : (n : ℕ) (a b : List ℕ) → take n (take n a ++ b) ≡ take n (a ++ b)
 take-again n a b =
     elim (cases-lt (length a) n) [
-      inl h ↦ ap (λ x. take n (x ++ b)) (take-all n a (omega arith))
-    | inr h ↦
-        take-append-le n (take n a) b (omega (arith, length-take-le n a h))
-        ∙ take-take n n a (omega arith)
-        ∙ sym (take-append-le n a b h)
+      | inl h ↦ ap (λ x. take n (x ++ b)) (take-all n a (omega arith))
+      | inr h ↦
+          take-append-le n (take n a) b (omega (arith, length-take-le n a h))
+          ∙ take-take n n a (omega arith)
+          ∙ sym (take-append-le n a b h)
     ]
 
 -- two pieces are as good as one

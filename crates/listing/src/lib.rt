@@ -27,7 +27,12 @@ mod text;
 
 /// Composes one line of the list into a buffer, and answers its length. Past the last line the answer is 0 and nothing is written.
 /// A buffer that is too short for the line is refused with 33 and left as it was; bytes past the line stay.
-pub fn compose_line<K: ListedKind, T: LinkTable<K>>(table: &T, budget: K, number: usize, out: &mut [u8]) -> Result<usize, PlanFault>
+pub fn compose_line<K: ListedKind, T: LinkTable<K>>(
+    table: &T,
+    budget: K,
+    number: usize,
+    out: &mut [u8],
+) -> Result<usize, PlanFault>
     ensures value { λ r. ⌜ r ≡ answer (lineOf (K·ListedKind .amount) (K·StorableKind .forms .code) (T·LinkTable .meaning (now (table .entry))) budget number) (now (out .entry)) ⌝ }
     ensures after { λ _. ⌜ now (out .exit) ≡ written (lineOf (K·ListedKind .amount) (K·StorableKind .forms .code) (T·LinkTable .meaning (now (table .entry))) budget number) (now (out .entry)) ⌝ }
 {
@@ -48,7 +53,12 @@ fn line_of<K: ListedKind, T: LinkTable<K>>(table: &T, budget: K, number: usize) 
     ensures { λ r. ⌜ textOf r ≡ lineOf (K·ListedKind .amount) (K·StorableKind .forms .code) (T·LinkTable .meaning (now (table .entry))) budget number ⌝ }
 {
     if number == 0 {
-        return head_line(table.points(), table.link_count(), K::code(), budget.amount());
+        return head_line(
+            table.points(),
+            table.link_count(),
+            K::code(),
+            budget.amount(),
+        );
     }
     match table.link(number - 1) {
         Some(link) => link_line(number - 1, link),

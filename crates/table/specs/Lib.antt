@@ -1,3 +1,4 @@
 pub mod Marks
 pub mod Refusals
 pub mod Table
+pub mod Buffers

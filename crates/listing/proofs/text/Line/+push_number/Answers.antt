@@ -12,14 +12,14 @@ use Rattle.listing.proofs.text.Line.+push_number.Needs.{then-number-ge10, else
 pub returns : need.returns
 returns t c =
     elim (c .if-number-ge10 .came) [
-      then-number-ge10 w ↦
-        let n = c .args .number in
-        let step = decimal-step n (omega arith) (omega arith) in
-        let two = extended-twice (textOf (c .args .self .now)) (decimal (n / 10)) ((48 + n % 10) ∷ []) in
-        cc
-    | else-number-ge10 w ↦
-        let n = c .args .number in
-        let one = decimal-digit n (omega arith) in
-        let same : n % 10 ≡ n = omega arith in
-        cc
+      | then-number-ge10 w ↦
+          let n = c .args .number in
+          let step = decimal-step n (omega arith) (omega arith) in
+          let two = extended-twice (textOf (c .args .self .now)) (decimal (n / 10)) ((48 + n % 10) ∷ []) in
+          cc
+      | else-number-ge10 w ↦
+          let n = c .args .number in
+          let one = decimal-digit n (omega arith) in
+          let same : n % 10 ≡ n = omega arith in
+          cc
     ]

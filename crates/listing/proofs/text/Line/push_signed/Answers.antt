@@ -1,7 +1,6 @@
 use mathlib.Core.Bool.{true, false}
 use mathlib.Core.Path.{_≡_, refl}
 use mathlib.Core.List.{[], _∷_}
-use Prim.Native.Nat.{ℕ}
 use native.Mathlib.Omega.{arith}
 use lib.IntN.{ℤ, pos, negsuc, natAbs}
 use lib.Signed.{ltZ}
@@ -27,9 +26,9 @@ returns c =
     let z = c .args .number in
     let same = toZ-ofZ w64 z (c .fits .number) in
     elim (c .if-number-lt0 .came) [
-      then-number-lt0 w ↦
-        let shown = below-zero z (cc) in
-        let two = extended-twice (textOf (c .args .self .now)) (45 ∷ []) (decimal (natAbs z)) in
-        cc
-    | else-number-lt0 w ↦ let shown = not-below-zero z (cc) in cc
+      | then-number-lt0 w ↦
+          let shown = below-zero z (cc) in
+          let two = extended-twice (textOf (c .args .self .now)) (45 ∷ []) (decimal (natAbs z)) in
+          cc
+      | else-number-lt0 w ↦ let shown = not-below-zero z (cc) in cc
     ]

@@ -5,7 +5,7 @@ use Rattle.link_file.specs.Check.{firstFault, frameCases, contentCases, record
 use Rattle.link_file.specs.Format.{headerLength, recordCount}
 use Rattle.link_file.proofs.Decoding.{filled}
 use Rattle.link_file.proofs.Faults.{answer-ok, answer-err, checked-frame, checked-content, checked-ok}
-use Rattle.link_file.proofs.reader.Reader.check.Needs as need
+use Rattle.link_file.proofs.input.Reader.check.Needs as need
 
 pub returns-in-Break-check-frame : need.returns-in-Break-check-frame
 returns-in-Break-check-frame g c =
