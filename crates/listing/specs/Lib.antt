@@ -1,3 +1,3 @@
 pub mod Lines
-pub mod Buffer
 pub mod Text
+pub mod Whole

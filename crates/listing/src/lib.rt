@@ -11,9 +11,11 @@
 //!
 //! Numbers are decimal, a negative one has a minus sign, and each line ends in byte 10.
 ghost use mathlib.Core.Path.{_≡_};
-ghost use Rattle.listing.specs.Buffer.{answer, written};
+ghost use Prim.Native.Nat.{_≤_};
+ghost use lib.ListN.{length};
+ghost use Rattle.table.specs.Buffers.{writtenLength, writtenTo};
 ghost use Rattle.listing.specs.Lines.{headLine, linkLine, lineOf, refusalLine, markWord};
-ghost use Rattle.listing.specs.Text.{textOf};
+ghost use Rattle.listing.specs.Text.{textOf, room};
 use amounts::ListedKind;
 use table::LinkTable;
 use table::links::Link;
@@ -23,18 +25,25 @@ use table::refusals::PlanFault;
 use text::Line;
 
 pub mod amounts;
+mod report;
 mod text;
+
+pub use report::Report;
+pub use report::list_file;
+pub use text::ROOM;
 
 /// Composes one line of the list into a buffer, and answers its length. Past the last line the answer is 0 and nothing is written.
 /// A buffer that is too short for the line is refused with 33 and left as it was; bytes past the line stay.
+/// No line is longer than 128 bytes.
 pub fn compose_line<K: ListedKind, T: LinkTable<K>>(
     table: &T,
     budget: K,
     number: usize,
     out: &mut [u8],
 ) -> Result<usize, PlanFault>
-    ensures value { λ r. ⌜ r ≡ answer (lineOf (K·ListedKind .amount) (K·StorableKind .forms .code) (T·LinkTable .meaning (now (table .entry))) budget number) (now (out .entry)) ⌝ }
-    ensures after { λ _. ⌜ now (out .exit) ≡ written (lineOf (K·ListedKind .amount) (K·StorableKind .forms .code) (T·LinkTable .meaning (now (table .entry))) budget number) (now (out .entry)) ⌝ }
+    ensures value { λ r. ⌜ r ≡ writtenLength (lineOf (K·ListedKind .amount) (K·StorableKind .forms .code) (T·LinkTable .meaning (now (table .entry))) budget number) (now (out .entry)) ⌝ }
+    ensures after { λ _. ⌜ now (out .exit) ≡ writtenTo (lineOf (K·ListedKind .amount) (K·StorableKind .forms .code) (T·LinkTable .meaning (now (table .entry))) budget number) (now (out .entry)) ⌝ }
+    ensures enough { λ _. ⌜ length (lineOf (K·ListedKind .amount) (K·StorableKind .forms .code) (T·LinkTable .meaning (now (table .entry))) budget number) ≤ room ⌝ }
 {
     line_of(table, budget, number).copy_to(out)
 }
@@ -42,8 +51,9 @@ pub fn compose_line<K: ListedKind, T: LinkTable<K>>(
 /// Composes the line of a refused file into a buffer, `refused 17 at 22`, and answers its length.
 /// A buffer that is too short for it is refused with 33 and left as it was; bytes past the line stay.
 pub fn compose_refusal(fault: FileFault, out: &mut [u8]) -> Result<usize, PlanFault>
-    ensures value { λ r. ⌜ r ≡ answer (refusalLine fault) (now (out .entry)) ⌝ }
-    ensures after { λ _. ⌜ now (out .exit) ≡ written (refusalLine fault) (now (out .entry)) ⌝ }
+    ensures value { λ r. ⌜ r ≡ writtenLength (refusalLine fault) (now (out .entry)) ⌝ }
+    ensures after { λ _. ⌜ now (out .exit) ≡ writtenTo (refusalLine fault) (now (out .entry)) ⌝ }
+    ensures enough { λ _. ⌜ length (refusalLine fault) ≤ room ⌝ }
 {
     refusal_line(fault).copy_to(out)
 }

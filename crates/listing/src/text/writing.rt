@@ -1,9 +1,11 @@
 //! Writing a line. What finds no room is left out.
 ghost use mathlib.Core.List.{[], _∷_};
 ghost use mathlib.Core.Path.{_≡_};
+ghost use Prim.Native.Nat.{_≤_};
+ghost use lib.ListN.{length};
 ghost use Rattle.std.specs.Written.{decimal, signed};
-ghost use Rattle.listing.specs.Buffer.{answer, written};
-ghost use Rattle.listing.specs.Text.{textOf, extended};
+ghost use Rattle.table.specs.Buffers.{writtenLength, writtenTo};
+ghost use Rattle.listing.specs.Text.{textOf, extended, room};
 use super::Line;
 use super::ROOM;
 use table::refusals::PlanFault;
@@ -60,8 +62,9 @@ impl Line {
 
     /// Copies the text into a buffer, and answers its length. A buffer that is too short is left as it was, and refused with 33.
     pub fn copy_to(&self, out: &mut [u8]) -> Result<usize, PlanFault>
-        ensures value { λ r. ⌜ r ≡ answer (textOf (now (self .entry))) (now (out .entry)) ⌝ }
-        ensures after { λ _. ⌜ now (out .exit) ≡ written (textOf (now (self .entry))) (now (out .entry)) ⌝ }
+        ensures value { λ r. ⌜ r ≡ writtenLength (textOf (now (self .entry))) (now (out .entry)) ⌝ }
+        ensures after { λ _. ⌜ now (out .exit) ≡ writtenTo (textOf (now (self .entry))) (now (out .entry)) ⌝ }
+        ensures enough { λ _. ⌜ length (textOf (now (self .entry))) ≤ room ⌝ }
     {
         if self.len > out.len() {
             return Err(PlanFault::ShortBuffer);
