@@ -90,8 +90,9 @@ def listing(data, kind):
     return "".join(lines)
 
 
-# The table of cases. Neighbouring cases with the same answer share one line; a run of files that pass
-# also shows a checksum (32-bit FNV-1a) over the lists of all its files, one after the other.
+# The table of cases: changed copies of a sheet, and what the check answers for each. Neighbouring cases with the
+# same answer share one line: first and last case, how many, the answer. A run of files that pass also shows a
+# checksum (32-bit FNV-1a) over the lists of all its files, one after the other.
 
 FNV_START = 2166136261
 FNV_FACTOR = 16777619
@@ -99,36 +100,50 @@ FNV_FACTOR = 16777619
 
 def folded(digest, text):
     for byte in text.encode("ascii"):
-        digest = ((digest ^ byte) * FNV_FACTOR) % 2 ** 32
+        digest = (digest ^ byte) * FNV_FACTOR % 2 ** 32
     return digest
 
 
+def answer(data, kind):
+    """What the check answers, and the text that is printed."""
+    try:
+        return "pass", listing(data, kind)
+    except Refused as refusal:
+        got = f"{refusal.number} at {refusal.place}"
+        return got, f"refused {got}\n"
+
+
 def runs(cases, kind):
-    """Lines for `cases`, pairs of a label and a file."""
-    out = []
-    answer = first = last = None
-    digest = count = 0
-
-    def close():
-        if count:
-            tail = f" {digest:08x}" if answer == "pass" else ""
-            out.append(f"{first}..{last} {count}: {answer}{tail}\n")
-
+    """The lines for `cases`, pairs of a label and a file."""
+    lines, current = [], None
     for label, data in cases:
-        try:
-            text = listing(data, kind)
-            got = "pass"
-        except Refused as refusal:
-            text = ""
-            got = f"{refusal.number} at {refusal.place}"
-        if got != answer:
-            close()
-            answer, first, count, digest = got, label, 0, FNV_START
-        last = label
-        count += 1
+        got, text = answer(data, kind)
+        if current is None or current["answer"] != got:
+            current = {"first": label, "count": 0, "answer": got, "digest": FNV_START}
+            lines.append(current)
+        current["last"] = label
+        current["count"] += 1
+        if got == "pass":
+            current["digest"] = folded(current["digest"], text)
+    for run in lines:
+        tail = f" {run['digest']:08x}" if run["answer"] == "pass" else ""
+        yield f"{run['first']}..{run['last']} {run['count']}: {run['answer']}{tail}\n"
+
+
+def tally(files, kind):
+    """How often each number is answered, and a checksum over all that is printed."""
+    counts, passed, digest = dict.fromkeys(range(11, 21), 0), 0, FNV_START
+    for data in files:
+        got, text = answer(data, kind)
+        if got == "pass":
+            passed += 1
+        else:
+            counts[int(got.split()[0])] += 1
         digest = folded(digest, text)
-    close()
-    return "".join(out)
+    yield f"pass: {passed}\n"
+    for number, count in counts.items():
+        yield f"{number}: {count}\n"
+    yield f"all: {digest:08x}\n"
 
 
 def truncations(sheet):
@@ -136,52 +151,44 @@ def truncations(sheet):
         yield str(length), sheet[:length]
 
 
+def fitted(sheet):
+    """The same, with the length field of what is left."""
+    for length in range(12, len(sheet) + 1):
+        yield str(length), sheet[:1] + (length - 5).to_bytes(4, "big") + sheet[5:length]
+
+
+def with_byte(sheet, place, value):
+    return sheet[:place] + bytes([value]) + sheet[place + 1:]
+
+
 def changes(sheet):
     for place in range(len(sheet)):
         for value in range(256):
-            changed = bytearray(sheet)
-            changed[place] = value
-            yield f"{place}={value}", bytes(changed)
+            yield f"{place}={value}", with_byte(sheet, place, value)
 
 
 def pairs(sheet):
-    """Two places at once, each one up or set to 255: what is answered when two faults meet."""
+    """Two places at once, each one up or at 255: what is answered when two faults meet."""
     for low in range(len(sheet)):
         for high in range(low + 1, len(sheet)):
-            for way in range(4):
-                changed = bytearray(sheet)
-                changed[low] = 255 if way // 2 else (sheet[low] + 1) % 256
-                changed[high] = 255 if way % 2 else (sheet[high] + 1) % 256
-                yield f"{low},{high},{way}", bytes(changed)
-
-
-def tallies(cases, kind):
-    """One line for each answer among `cases`, in the order of number and place."""
-    seen = {}
-    digest = FNV_START
-    for _, data in cases:
-        try:
-            text = listing(data, kind)
-            got = (0, 0)
-        except Refused as refusal:
-            text = f"refused {refusal.number} at {refusal.place}\n"
-            got = (refusal.number, refusal.place)
-        seen[got] = seen.get(got, 0) + 1
-        digest = folded(digest, text)
-    lines = [f"{n} at {p}: {c}\n" if n else f"pass: {c}\n" for (n, p), c in sorted(seen.items())]
-    return "".join(lines) + f"all {digest:08x}\n"
+            for first in ((sheet[low] + 1) % 256, 255):
+                for second in ((sheet[high] + 1) % 256, 255):
+                    yield with_byte(with_byte(sheet, low, first), high, second)
 
 
 def all_cases(sheet):
-    drift = sheet[:5] + b"\x02" + sheet[6:]
+    drift = with_byte(sheet, 5, 2)
     by, dr = KINDS["bytes"], KINDS["drift"]
     parts = [
         ("lengths", runs(truncations(sheet), by)),
+        ("lengths with the length field to match", runs(fitted(sheet), by)),
         ("changes", runs(changes(sheet), by)),
-        ("changes, checked as drift", runs(changes(sheet), dr)),
-        ("changes of the drift sheet, checked as drift", runs(changes(drift), dr)),
+        ("changes checked as drift", runs(changes(sheet), dr)),
+        ("changes of the drift sheet", runs(changes(drift), dr)),
+        ("pairs", tally(pairs(sheet), by)),
+        ("pairs of the drift sheet", tally(pairs(drift), dr)),
     ]
-    return "".join(f"{title}\n{text}" for title, text in parts)
+    return "".join(f"{title}\n{''.join(lines)}" for title, lines in parts)
 
 
 def main(words):

@@ -1,14 +1,15 @@
 //! The check of a link file, part by part.
-ghost use mathlib.Core.Bool.{_||_};
 ghost use mathlib.Core.Path.{_≡_};
-ghost use Prim.Native.Nat.{ℕ, _+_, _*_, _≤_, _<_};
-ghost use lib.ListN.{length, getD, drop};
+ghost use Prim.Native.Nat.{_+_, _≤_};
+ghost use lib.ListN.{length, drop};
 ghost use Rattle.std.specs.Results.{Cases};
 ghost use Rattle.std.specs.declared.option.Option.the-variants.{Some, None};
 ghost use Rattle.price.specs.Forms.{Storable};
 ghost use Rattle.table.specs.declared.refusals.FileFault.the-variants.{Record};
-ghost use Rattle.link_file.specs.Check.{firstFault, endsWrong, longest, frameCases, contentCases, recordCases, recordsCases, answer, Whole};
+ghost use Rattle.link_file.specs.Check.{firstFault, endsWrong, longest, frameCases, contentCases, recordCases, recordsCases, answer, checked, Whole};
 ghost use Rattle.link_file.specs.Format.{headerLength, recordLength, recordCount, number16, four};
+ghost use Rattle.link_file.specs.Reading.{Filled};
+use super::input::Reader;
 use price::StorableKind;
 use table::MOST_LINKS;
 use table::MOST_POINTS;
@@ -27,13 +28,13 @@ pub const LONGEST: usize = HEADER + RECORD * MOST_LINKS;
 
 // What the header holds besides the frame.
 #[derive(Clone, Copy)]
-pub(crate) struct Header<K> {
-    pub(crate) points: u16,
-    pub(crate) budget: K,
+struct Header<K> {
+    points: u16,
+    budget: K,
 }
 
 // Size, version, length field and kind's code.
-pub(crate) fn check_frame<K: StorableKind>(bytes: &[u8]) -> Result<(), FileFault>
+fn check_frame<K: StorableKind>(bytes: &[u8]) -> Result<(), FileFault>
     ensures value { λ r. ⌜ r ≡ answer (firstFault (frameCases forms (now (bytes .entry)))) ⌝ }
     ensures storable { λ _. ⌜ Storable (K·PriceKind .operations) forms ⌝ }
 {
@@ -62,7 +63,7 @@ fn ends_wrong(points: u16, first: u16, second: u16) -> bool
 }
 
 // Point count and budget, and that the links are whole records, of a file whose frame is right.
-pub(crate) fn check_content<K: StorableKind>(bytes: &[u8]) -> Result<Header<K>, FileFault>
+fn check_content<K: StorableKind>(bytes: &[u8]) -> Result<Header<K>, FileFault>
     requires { ⌜ firstFault (frameCases forms (now bytes)) ≡ None ⌝ }
     ensures { λ r. ⌜ Cases r (λ h. (firstFault (contentCases forms (now (bytes .entry))) ≡ None) × (h .points ≡ number16 (now (bytes .entry)) 6) × (forms .budgetOf (four (now (bytes .entry)) 8) ≡ Some (h .budget))) (λ e. firstFault (contentCases forms (now (bytes .entry))) ≡ Some e) ⌝ }
 {
@@ -80,11 +81,7 @@ pub(crate) fn check_content<K: StorableKind>(bytes: &[u8]) -> Result<Header<K>, 
 }
 
 // The record at the front of `bytes`, which stands at a place of the file.
-pub(crate) fn check_record<K: StorableKind>(
-    bytes: &[u8],
-    at: usize,
-    points: u16,
-) -> Result<(), RecordFault>
+fn check_record<K: StorableKind>(bytes: &[u8], at: usize, points: u16) -> Result<(), RecordFault>
     requires { ⌜ recordLength ≤ length (now bytes) ⌝ ∗ ⌜ at + recordLength ≤ longest ⌝ }
     ensures { λ r. ⌜ Cases r (λ _. firstFault (recordCases forms points at (now (bytes .entry))) ≡ None) (λ e. firstFault (recordCases forms points at (now (bytes .entry))) ≡ Some (Record e)) ⌝ }
 {
@@ -106,7 +103,7 @@ pub(crate) fn check_record<K: StorableKind>(
 }
 
 // The records of a file whose header is right.
-pub(crate) fn check_records<K: StorableKind>(bytes: &[u8], points: u16) -> Result<(), FileFault>
+fn check_records<K: StorableKind>(bytes: &[u8], points: u16) -> Result<(), FileFault>
     requires { ⌜ Whole (now bytes) ⌝ }
     ensures { λ r. ⌜ r ≡ answer (firstFault (recordsCases forms points (recordCount (now (bytes .entry))) headerLength (drop headerLength (now (bytes .entry))))) ⌝ }
 {
@@ -116,4 +113,20 @@ pub(crate) fn check_records<K: StorableKind>(bytes: &[u8], points: u16) -> Resul
         check_record::<K>(&bytes[at..], at, points)?;
     }
     Ok(())
+}
+
+impl<'a, K: StorableKind> Reader<'a, K> {
+    /// Checks a link file, and fills the reader with it. A refused file leaves the reader as it was.
+    pub fn check(&mut self, bytes: &'a [u8]) -> Result<(), FileFault>
+        ensures result { λ r. ⌜ r ≡ checked (K·StorableKind .forms) (now (bytes .entry)) ⌝ }
+        ensures reader { λ r. ⌜ Cases r (λ _. Filled (K·PriceKind .operations) (K·StorableKind .forms) (now (self .exit)) (now (bytes .entry))) (λ _. now (self .exit) ≡ now (self .entry)) ⌝ }
+    {
+        check_frame::<K>(bytes)?;
+        let header = check_content::<K>(bytes)?;
+        check_records::<K>(bytes, header.points)?;
+        self.bytes = bytes;
+        self.points = header.points;
+        self.budget = header.budget;
+        Ok(())
+    }
 }

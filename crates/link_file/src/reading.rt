@@ -2,21 +2,15 @@
 ghost use mathlib.Core.Path.{_≡_};
 ghost use Prim.Native.Nat.{_≤_};
 ghost use lib.ListN.{length};
-ghost use Rattle.std.specs.Results.{Cases};
-ghost use Rattle.link_file.specs.Check.{checked};
 ghost use Rattle.link_file.specs.Format.{recordLength, recordCount, linkAt};
-ghost use Rattle.link_file.specs.Reading.{readerTable, Unfilled, Filled};
+ghost use Rattle.link_file.specs.Reading.{readerTable, Unfilled};
 use super::check::HEADER;
 use super::check::RECORD;
-use super::check::check_content;
-use super::check::check_frame;
-use super::check::check_records;
 use super::input::Reader;
 use price::StorableKind;
 use table::LinkTable;
 use table::links::Link;
 use table::marks::Mark;
-use table::refusals::FileFault;
 
 impl<'a, K: StorableKind> Reader<'a, K> {
     /// A reader with no file: one point, no links, zero budget.
@@ -28,20 +22,6 @@ impl<'a, K: StorableKind> Reader<'a, K> {
             points: 1,
             budget: K::zero(),
         }
-    }
-
-    /// Checks a link file, and fills the reader with it. A refused file leaves the reader as it was.
-    pub fn check(&mut self, bytes: &'a [u8]) -> Result<(), FileFault>
-        ensures result { λ r. ⌜ r ≡ checked (K·StorableKind .forms) (now (bytes .entry)) ⌝ }
-        ensures reader { λ r. ⌜ Cases r (λ _. Filled (K·PriceKind .operations) (K·StorableKind .forms) (now (self .exit)) (now (bytes .entry))) (λ _. now (self .exit) ≡ now (self .entry)) ⌝ }
-    {
-        check_frame::<K>(bytes)?;
-        let header = check_content::<K>(bytes)?;
-        check_records::<K>(bytes, header.points)?;
-        self.bytes = bytes;
-        self.points = header.points;
-        self.budget = header.budget;
-        Ok(())
     }
 
     /// The file's budget.

@@ -9,7 +9,7 @@ use native.Mathlib.Decide.{decLe}
 use lib.Dec.{T, leb, leb→le, le→leb}
 use Rattle.price.specs.Kind.{TotalOf, Compared, Laws, longest}
 use Rattle.price.specs.Forms.{number32, bytes32, Four, Tied, Storable, only}
-use Rattle.price.specs.Bottleneck.{of, admitted, operations, forms}
+use Rattle.price.specs.Bottleneck.{of, within, largest, largestBudget, operations, forms}
 use Rattle.price.specs.declared.bottleneck.Drift.{Drift}
 use Rattle.price.proofs.FourBytes.{number-of-bytes, bytes-of-number, four-bytes, only-yes, only-some}
 use Rattle.std.specs.declared.option.Option.the-variants.{Some}
@@ -29,16 +29,17 @@ lawful = record {
   exact = λ m n x y _ _ _. refl;
 }
 
-tied : Tied admitted (λ x. bytes32 (x .0)) (λ bs. only admitted (of (number32 bs)))
-tied = record {
+-- any range within 32 bits
+tied : (high : ℕ) → high < 2 ^ 32 → Tied (within high) (λ x. bytes32 (x .0)) (λ bs. only (within high) (of (number32 bs)))
+tied high below = record {
   long = λ x. four-bytes (x .0);
   back = λ x t.
-      let small : x .0 < 2 ^ 32 = omega (arith, leb→le (x .0) (65535) t) in
-      ap (λ n. only admitted (of n)) (number-of-bytes (x .0) small) ∙ only-yes admitted x t;
+      let small : x .0 < 2 ^ 32 = omega (arith, leb→le (x .0) high t) in
+      ap (λ n. only (within high) (of n)) (number-of-bytes (x .0) small) ∙ only-yes (within high) x t;
   sole = λ bs x f e.
-      let found = only-some admitted (of (number32 bs)) x e in
-      (subst (λ y. T (admitted y)) (found .1) (found .0), ap (λ y. bytes32 (y .0)) (sym (found .1)) ∙ bytes-of-number bs f);
+      let found = only-some (within high) (of (number32 bs)) x e in
+      (subst (λ y. T (within high y)) (found .1) (found .0), ap (λ y. bytes32 (y .0)) (sym (found .1)) ∙ bytes-of-number bs f);
 }
 
 pub storable : Storable operations forms
-storable = record { prices = tied; budgets = tied; byte = omega arith }
+storable = record { prices = tied largest (omega arith); budgets = tied largestBudget (omega arith); byte = omega arith }

@@ -6,15 +6,20 @@ use Rattle.price.specs.Kind.{Operations}
 use Rattle.price.specs.Forms.{Forms, number32, bytes32, only}
 use Rattle.price.specs.declared.bottleneck.Drift.{Drift}
 
--- the largest price, and the largest budget
+-- the largest price
 abbrev pub largest : ℕ
 largest = 65535
+
+-- the largest budget
+abbrev pub largestBudget : ℕ
+largestBudget = 65535
 
 abbrev pub of : ℕ → Drift
 of n = record { 0 = n }
 
-abbrev pub admitted : Drift → Bool
-admitted x = leb (x .0) largest
+-- at most so much
+abbrev pub within : ℕ → Drift → Bool
+within high x = leb (x .0) high
 
 abbrev pub operations : Operations Drift
 operations = record {
@@ -22,8 +27,8 @@ operations = record {
   plus = λ x y. of (max (x .0) (y .0));
   added = λ x y. of (max (x .0) (y .0));
   notAbove = λ x y. leb (x .0) (y .0);
-  price = admitted;
-  budget = admitted;
+  price = within largest;
+  budget = within largestBudget;
 }
 
 -- code 2; unsigned
@@ -31,7 +36,7 @@ abbrev pub forms : Forms Drift
 forms = record {
   code = 2;
   priceForm = λ x. bytes32 (x .0);
-  priceOf = λ bs. only admitted (of (number32 bs));
+  priceOf = λ bs. only (within largest) (of (number32 bs));
   budgetForm = λ x. bytes32 (x .0);
-  budgetOf = λ bs. only admitted (of (number32 bs));
+  budgetOf = λ bs. only (within largestBudget) (of (number32 bs));
 }

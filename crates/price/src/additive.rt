@@ -4,7 +4,7 @@ use super::PriceKind;
 use super::StorableKind;
 
 /// The largest price; the smallest is its negative.
-pub const LARGEST: i32 = 1_000_000;
+pub const LARGEST_PRICE: i32 = 1_000_000;
 
 /// A number of bytes: a price, a total or a budget.
 #[derive(Clone, Copy)]
@@ -27,7 +27,7 @@ pub impl PriceKind for Bytes as BytesKind {
     }
 
     fn is_price(self) -> bool {
-        -LARGEST <= self.0 && self.0 <= LARGEST
+        -LARGEST_PRICE <= self.0 && self.0 <= LARGEST_PRICE
     }
 
     // Any signed 32-bit number.
@@ -44,26 +44,24 @@ pub impl StorableKind for Bytes as BytesForms {
     }
 
     fn price_form(self) -> [u8; 4] {
-        self.0.to_be_bytes()
+        let Bytes(price) = self;
+        price.to_be_bytes()
     }
 
     fn price_of(form: [u8; 4]) -> Option<Self> {
-        let amount = Bytes(i32::from_be_bytes(form));
-        if amount.is_price() {
-            Some(amount)
-        } else {
-            None
-        }
+        let price = Bytes(i32::from_be_bytes(form));
+        if price.is_price() { Some(price) } else { None }
     }
 
     fn budget_form(self) -> [u8; 4] {
-        self.0.to_be_bytes()
+        let Bytes(budget) = self;
+        budget.to_be_bytes()
     }
 
     fn budget_of(form: [u8; 4]) -> Option<Self> {
-        let amount = Bytes(i32::from_be_bytes(form));
-        if amount.is_budget() {
-            Some(amount)
+        let budget = Bytes(i32::from_be_bytes(form));
+        if budget.is_budget() {
+            Some(budget)
         } else {
             None
         }

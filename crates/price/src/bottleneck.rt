@@ -3,8 +3,11 @@ ghost use Rattle.price.specs.Bottleneck.{operations as largest-of, forms as un
 use super::PriceKind;
 use super::StorableKind;
 
-/// The largest price, and the largest budget.
-pub const LARGEST: u32 = 65_535;
+/// The largest price.
+pub const LARGEST_PRICE: u32 = 65_535;
+
+/// The largest budget.
+pub const LARGEST_BUDGET: u32 = 65_535;
 
 /// A number of sixty-fourths of a pixel: a price, a total or a budget.
 #[derive(Clone, Copy)]
@@ -26,11 +29,11 @@ pub impl PriceKind for Drift as DriftKind {
     }
 
     fn is_price(self) -> bool {
-        self.0 <= LARGEST
+        self.0 <= LARGEST_PRICE
     }
 
     fn is_budget(self) -> bool {
-        self.0 <= LARGEST
+        self.0 <= LARGEST_BUDGET
     }
 }
 
@@ -42,26 +45,24 @@ pub impl StorableKind for Drift as DriftForms {
     }
 
     fn price_form(self) -> [u8; 4] {
-        self.0.to_be_bytes()
+        let Drift(price) = self;
+        price.to_be_bytes()
     }
 
     fn price_of(form: [u8; 4]) -> Option<Self> {
-        let amount = Drift(u32::from_be_bytes(form));
-        if amount.is_price() {
-            Some(amount)
-        } else {
-            None
-        }
+        let price = Drift(u32::from_be_bytes(form));
+        if price.is_price() { Some(price) } else { None }
     }
 
     fn budget_form(self) -> [u8; 4] {
-        self.0.to_be_bytes()
+        let Drift(budget) = self;
+        budget.to_be_bytes()
     }
 
     fn budget_of(form: [u8; 4]) -> Option<Self> {
-        let amount = Drift(u32::from_be_bytes(form));
-        if amount.is_budget() {
-            Some(amount)
+        let budget = Drift(u32::from_be_bytes(form));
+        if budget.is_budget() {
+            Some(budget)
         } else {
             None
         }

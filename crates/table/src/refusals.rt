@@ -171,15 +171,15 @@ impl PlanFault {
 pub impl From<RecordFault> for FileFault as FileFaultFromRecord {
     ghost converts = { λ f r. r ≡ Record f };
 
-    fn from(fault: RecordFault) -> FileFault {
-        FileFault::Record(fault)
+    fn from(cause: RecordFault) -> FileFault {
+        FileFault::Record(cause)
     }
 }
 
 pub impl From<FileFault> for PlanFault as PlanFaultFromFile {
     ghost converts = { λ f r. r ≡ File f };
 
-    fn from(fault: FileFault) -> PlanFault {
-        PlanFault::File(fault)
+    fn from(cause: FileFault) -> PlanFault {
+        PlanFault::File(cause)
     }
 }
