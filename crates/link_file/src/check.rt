@@ -4,7 +4,6 @@ ghost use Prim.Native.Nat.{_+_, _≤_};
 ghost use lib.ListN.{length, drop};
 ghost use Rattle.std.specs.Results.{Cases};
 ghost use Rattle.std.specs.declared.option.Option.the-variants.{Some, None};
-ghost use Rattle.price.specs.Forms.{Storable};
 ghost use Rattle.table.specs.declared.refusals.FileFault.the-variants.{Record};
 ghost use Rattle.link_file.specs.Check.{firstFault, endsWrong, longest, frameCases, contentCases, recordCases, recordsCases, answer, checked, Whole};
 ghost use Rattle.link_file.specs.Format.{headerLength, recordLength, recordCount, number16, four};
@@ -35,10 +34,8 @@ struct Header<K> {
 
 // Size, version, length field and kind's code.
 fn check_frame<K: StorableKind>(bytes: &[u8]) -> Result<(), FileFault>
-    ensures value { λ r. ⌜ r ≡ answer (firstFault (frameCases forms (now (bytes .entry)))) ⌝ }
-    ensures storable { λ _. ⌜ Storable (K·PriceKind .operations) forms ⌝ }
+    ensures { λ r. ⌜ r ≡ answer (firstFault (frameCases forms (now (bytes .entry)))) ⌝ }
 {
-    let code = K::code();
     if bytes.len() < HEADER || bytes.len() > LONGEST {
         return Err(FileFault::Size);
     }
@@ -49,7 +46,7 @@ fn check_frame<K: StorableKind>(bytes: &[u8]) -> Result<(), FileFault>
     if after as usize != bytes.len() - 5 {
         return Err(FileFault::LengthField);
     }
-    if bytes[5] != code {
+    if bytes[5] != K::code() {
         return Err(FileFault::Kind);
     }
     Ok(())

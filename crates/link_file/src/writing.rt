@@ -8,7 +8,6 @@ ghost use Rattle.std.specs.Finite.{nth};
 ghost use Rattle.std.specs.Joined.{joined};
 ghost use Rattle.std.specs.declared.option.Option.the-variants.{Some};
 ghost use Rattle.std.specs.Vec.{made};
-ghost use Rattle.price.specs.Forms.{Storable};
 ghost use Rattle.table.specs.Buffers.{writtenLength, writtenTo};
 ghost use Rattle.table.specs.Table.{Lawful};
 ghost use Rattle.link_file.specs.Format.{headerLength, recordLength, recordBytes, headerBytes, fileBytes};
@@ -21,8 +20,8 @@ use table::links::Link;
 use table::refusals::PlanFault;
 
 // The bytes before the first record.
-fn header_bytes<K: StorableKind>(code: u8, links: usize, points: u16, budget: K) -> [u8; 12]
-    requires { ⌜ code ≡ K·StorableKind .forms .code ⌝ ∗ ⌜ 7 + recordLength * links < 2 ^ 64 ⌝ }
+fn header_bytes<K: StorableKind>(links: usize, points: u16, budget: K) -> [u8; 12]
+    requires { ⌜ 7 + recordLength * links < 2 ^ 64 ⌝ }
     ensures { λ r. ⌜ r ≡ headerBytes (K·StorableKind .forms) links points budget ⌝ }
 {
     let size = (7 + RECORD * links).to_be_bytes();
@@ -34,7 +33,7 @@ fn header_bytes<K: StorableKind>(code: u8, links: usize, points: u16, budget: K)
         size[5],
         size[6],
         size[7],
-        code,
+        K::code(),
         count[0],
         count[1],
         form[0],
@@ -66,11 +65,11 @@ fn record_bytes<K: StorableKind>(link: Link<K>) -> [u8; 10]
 }
 
 // Writes the header to the front.
-fn put_header<K: StorableKind>(out: &mut [u8], code: u8, links: usize, points: u16, budget: K)
-    requires { ⌜ headerLength ≤ length (now out) ⌝ ∗ ⌜ code ≡ K·StorableKind .forms .code ⌝ ∗ ⌜ 7 + recordLength * links < 2 ^ 64 ⌝ }
+fn put_header<K: StorableKind>(out: &mut [u8], links: usize, points: u16, budget: K)
+    requires { ⌜ headerLength ≤ length (now out) ⌝ ∗ ⌜ 7 + recordLength * links < 2 ^ 64 ⌝ }
     ensures { λ _. ⌜ now (out .exit) ≡ headerBytes (K·StorableKind .forms) links points budget ++ drop headerLength (now (out .entry)) ⌝ }
 {
-    out[0..HEADER].copy_from_slice(&header_bytes(code, links, points, budget));
+    out[0..HEADER].copy_from_slice(&header_bytes(links, points, budget));
 }
 
 // A link that the table has.
@@ -94,7 +93,7 @@ fn put_record<K: StorableKind>(out: &mut [u8], at: usize, link: Link<K>)
 
 // Writes all records after the header.
 fn put_records<K: StorableKind, L: LinkTable<K>>(table: &L, count: usize, out: &mut [u8])
-    requires { ⌜ count ≡ length (L·LinkTable .meaning (now table) .links) ⌝ ∗ ⌜ headerLength + recordLength * count ≤ length (now out) ⌝ ∗ ⌜ Storable (K·PriceKind .operations) (K·StorableKind .forms) ⌝ }
+    requires { ⌜ count ≡ length (L·LinkTable .meaning (now table) .links) ⌝ ∗ ⌜ headerLength + recordLength * count ≤ length (now out) ⌝ }
     ensures { λ _. ⌜ now (out .exit) ≡ take headerLength (now (out .entry)) ++ (joined (recordBytes (K·StorableKind .forms)) (L·LinkTable .meaning (now (table .entry)) .links) ++ drop (headerLength + recordLength * count) (now (out .entry))) ⌝ }
 {
     for number in 0..count {
@@ -112,12 +111,11 @@ pub fn write<K: StorableKind, L: LinkTable<K>>(
     ensures buffer { λ _. ⌜ now (out .exit) ≡ writtenTo (fileBytes (K·StorableKind .forms) (L·LinkTable .meaning (now (table .entry))) budget) (now (out .entry)) ⌝ }
     ensures stored { λ r. ⌜ made r (λ n. Lawful (K·PriceKind .operations) (L·LinkTable .meaning (now (table .entry))) → T (K·PriceKind .operations .budget budget) → Stored (K·PriceKind .operations) (K·StorableKind .forms) (L·LinkTable .meaning (now (table .entry))) budget (take n (now (out .exit)))) ⌝ }
 {
-    let code = K::code();
     let count = table.link_count();
     if out.len() < HEADER || count > (out.len() - HEADER) / RECORD {
         return Err(PlanFault::ShortBuffer);
     }
-    put_header(out, code, count, table.points(), budget);
+    put_header(out, count, table.points(), budget);
     put_records(table, count, out);
     Ok(HEADER + RECORD * count)
 }

@@ -1,11 +1,10 @@
 //! Price kinds: what a price, a total of prices and a budget are, how they add and compare, and how they are stored.
 ghost use mathlib.Core.Path.{_≡_};
-ghost use Prim.Native.Nat.{ℕ, _+_, _≤_};
 ghost use lib.Dec.{T};
 ghost use Rattle.std.specs.Options.{Cases};
 ghost use Rattle.std.specs.declared.option.Option.the-variants.{Some, None};
 ghost use Rattle.price.specs.Forms.{Forms, Storable};
-ghost use Rattle.price.specs.Kind.{Operations, Laws, TotalOf, longest};
+ghost use Rattle.price.specs.Kind.{Operations, Laws};
 
 pub mod additive;
 pub mod bottleneck;
@@ -21,10 +20,9 @@ pub trait PriceKind: Copy {
     fn zero() -> Self
         ensures { λ r. ⌜ r ≡ operations .zero ⌝ };
 
-    /// The total of both. It is exact up to 1,023 admitted prices, and defined for any two amounts.
+    /// The total of both: exact up to 1,023 admitted prices, by the laws, and defined for any two amounts.
     fn plus(self, other: Self) -> Self
-        ensures always { λ r. ⌜ r ≡ operations .added self other ⌝ }
-        ensures exact { λ r. ⌜ ((m n : ℕ) → TotalOf operations m self → TotalOf operations n other → m + n ≤ longest → r ≡ operations .plus self other) ⌝ };
+        ensures { λ r. ⌜ r ≡ operations .added self other ⌝ };
 
     /// Whether this amount is not above the other.
     fn not_above(self, other: Self) -> bool
@@ -44,10 +42,12 @@ pub trait StorableKind: PriceKind {
     /// The code, the forms, and what each form stands for.
     ghost forms: { Forms Self };
 
-    /// The code. Each admitted price and budget has exactly one form, which reads back to it, and every other form is none.
+    /// Each admitted price and budget has exactly one form, which reads back to it, and every other form is none.
+    law tied: { Storable (Self·PriceKind .operations) forms };
+
+    /// The code.
     fn code() -> u8
-        ensures value { λ r. ⌜ r ≡ forms .code ⌝ }
-        ensures storable { λ _. ⌜ Storable (Self·PriceKind .operations) forms ⌝ };
+        ensures { λ r. ⌜ r ≡ forms .code ⌝ };
 
     /// The form of a price, which reads back to it if it is admitted.
     fn price_form(self) -> [u8; 4]

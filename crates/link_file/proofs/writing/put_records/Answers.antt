@@ -22,8 +22,8 @@ loop-number-again g c =
     let at = headerLength + recordLength * i in
     let head : length (take headerLength old) ≡ headerLength = length-take-le headerLength old (omega arith) in
     let few : length (take i links) ≡ i = length-take-le i links (omega arith) in
-    let long : length (take headerLength old) + length (joined (recordBytes f) (take i links)) ≡ at = omega (arith, length-joined o f (c .pre .1 .1) (take i links)) in
-    let step = next-piece (take headerLength old) (joined (recordBytes f) (take i links)) (recordBytes f link) old (c .loop-number .out) at recordLength long (length-record o f (c .pre .1 .1) link) (c .loop-number .inv) in
+    let long : length (take headerLength old) + length (joined (recordBytes f) (take i links)) ≡ at = omega (arith, length-joined o f (g .K·StorableKind·met .tied) (take i links)) in
+    let step = next-piece (take headerLength old) (joined (recordBytes f) (take i links)) (recordBytes f link) old (c .loop-number .out) at recordLength long (length-record o f (g .K·StorableKind·met .tied) link) (c .loop-number .inv) in
     let more : joined (recordBytes f) (take i links) ++ recordBytes f link ≡ joined (recordBytes f) (take (i + 1) links) = sym (joined-take (recordBytes f) links i link (c .link-at .ensures)) ∙ ap (λ n. joined (recordBytes f) (take n links)) (sym (add-one i)) in
     let place : at + recordLength ≡ headerLength + recordLength * (i + 1) = omega arith in
     c .put-record .ensures ∙ step

@@ -24,7 +24,7 @@ returns-then-out-lt-HEADER g c =
       | then-out-lt-HEADER·by·then-out-lt-HEADER w ↦ omega arith
       | then-out-lt-HEADER·by·else-out-lt-HEADER·then-count-out w ↦ omega arith
     ] in
-    let written = written-not (fileBytes f t (c .args .budget)) old size (length-file o f (c .code-code .ensures .storable) t (c .args .budget)) short in
+    let written = written-not (fileBytes f t (c .args .budget)) old size (length-file o f (g .K·StorableKind·met .tied) t (c .args .budget)) short in
     record { result = written .0; buffer = written .1; stored = tt }
 
 pub returns : need.returns
@@ -34,7 +34,7 @@ returns g c =
     let t = g .L·LinkTable .meaning (c .args .table .now) in
     let b = c .args .budget in
     let n = length (t .links) in
-    let storable = c .code-code .ensures .storable in
+    let storable = g .K·StorableKind·met .tied in
     let old = c .args .out .now in
     let size = headerLength + recordLength * n in
     let room : size ≤ length old = omega arith in
