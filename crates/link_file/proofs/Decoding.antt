@@ -21,7 +21,7 @@ use Rattle.table.specs.Table.{Table, Lawful, LawfulLink, mostPoints}
 use Rattle.table.specs.declared.links.Link.{Link}
 use Rattle.table.specs.declared.marks.Mark.the-variants.{Free}
 use Rattle.table.specs.declared.refusals.FileFault.{FileFault}
-use Rattle.link_file.specs.Check.{Case, firstFault, endsWrong, frameCases, contentCases, recordCases, recordsCases, longest, shortest}
+use Rattle.link_file.specs.Check.{Case, firstFault, endsWrong, frameCases, contentCases, recordCases, recordsCases, longestFile, shortestFile}
 use Rattle.link_file.specs.Format.{headerLength, recordLength, recordCount, number16, bytes16, four, recordBytes, headerBytes, fileBytes, linkAt, linksOf, fileTable, fileBudget}
 use Rattle.link_file.specs.Reading.{readerTable, Filled}
 use Rattle.link_file.specs.declared.input.Reader.{Reader}
@@ -167,8 +167,8 @@ module _ {K : Type 0} (o : Operations K) (f : Forms K) (storable : Storable o f)
 
   -- what the cases of the whole say where none applies
   pub record Header (bs : List ℕ) : Type 0 where
-    pub long : shortest ≤ length bs
-    pub short : length bs ≤ longest
+    pub long : shortestFile ≤ length bs
+    pub short : length bs ≤ longestFile
     pub version : getD bs 0 0 ≡ 1
     pub field : number32 (four bs 1) ≡ length bs - 5
     pub kind : getD bs 5 0 ≡ f .code
@@ -184,14 +184,14 @@ module _ {K : Type 0} (o : Operations K) (f : Forms K) (storable : Storable o f)
   header-from bs h k =
       let a = none-apply (frameCases f bs) h in
       let b = none-apply (contentCases f bs) k in
-      let size = or-false (ltb (length bs) shortest) (ltb longest (length bs)) (a .0) in
+      let size = or-false (ltb (length bs) shortestFile) (ltb longestFile (length bs)) (a .0) in
       let count = or-false (eqb (number16 bs 6) 0) (ltb mostPoints (number16 bs 6)) (b .0) in
-      let long = le-from (length bs) shortest (size .0) in
+      let long = le-from (length bs) shortestFile (size .0) in
       let field = eq-from (number32 (four bs 1)) (length bs - 5) (a .1 .1 .0) in
       let some = apart-from (number16 bs 6) 0 (count .0) in
       record {
         long = long;
-        short = le-from longest (length bs) (size .1);
+        short = le-from longestFile (length bs) (size .1);
         version = eq-from (getD bs 0 0) 1 (a .1 .0);
         field = field;
         kind = eq-from (getD bs 5 0) (f .code) (a .1 .1 .1 .0);
@@ -220,7 +220,7 @@ module _ {K : Type 0} (o : Operations K) (f : Forms K) (storable : Storable o f)
     module _ (right : firstFault (recordsCases f (number16 bs 6) (recordCount bs) headerLength (drop headerLength bs)) ≡ None) where
       pub file-lawful : Lawful o (fileTable f (o .zero) bs)
       file-lawful = record {
-        some = header .some;
+        atLeastOne = header .some;
         few = header .few;
         short = few-links (length bs) (recordCount bs) (length (linksOf f (o .zero) (recordCount bs) (drop headerLength bs))) (header .short) (header .records) (length-links f (o .zero) (recordCount bs) (drop headerLength bs));
         each = records-lawful (number16 bs 6) (recordCount bs) headerLength (drop headerLength bs) (small-drop headerLength bs small) right;
@@ -253,6 +253,7 @@ module _ {K : Type 0} (o : Operations K) (f : Forms K) (storable : Storable o f)
       let table : readerTable o f r ≡ fileTable f (o .zero) bs = ap (λ p. with-points bs p) points in
       let limit : r .budget ≡ fileBudget f (o .zero) bs = sym (ap (λ b. valueOr b (o .zero)) budget) in
       record {
+        bytes = refl;
         table = table;
         budget = limit;
         lawful = subst (Lawful o) (sym table) (file-lawful bs small header records);
@@ -269,3 +270,15 @@ nth-links f nothing (suc n) (suc i) bs h =
     let k : i < n = omega arith in
     nth-links f nothing n i (drop recordLength bs) k
     ∙ ap (λ t. Some (linkAt f nothing t)) (drop-drop (recordLength * i) recordLength bs ∙ ap (λ m. drop m bs) e)
+
+-- one point and no links
+pub lawful-empty : {K : Type 0} (o : Operations K) → Lawful o (record { points = 1; links = []; carried = o .zero })
+lawful-empty o = record {
+  atLeastOne = omega arith;
+  few = omega arith;
+  short = omega arith;
+  each = λ i l e. let z : _≡_ {A = ℕ} 0 1 = cc in absurd (omega arith);
+  carries = 0;
+  total = none;
+  bounded = omega arith;
+}

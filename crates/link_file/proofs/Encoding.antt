@@ -12,6 +12,7 @@ use Rattle.std.specs.Joined.{joined}
 use Rattle.std.specs.Options.{isSome, valueOr}
 use Rattle.std.specs.declared.option.Option.{Option}
 use Rattle.std.specs.declared.option.Option.the-variants.{Some, None}
+use Rattle.std.specs.declared.result.Result.{Result}
 use Rattle.std.specs.declared.result.Result.the-variants.{Ok, Err}
 use Rattle.price.specs.Kind.{Operations}
 use Rattle.price.specs.Forms.{Forms, Storable, Four, number32, bytes32}
@@ -21,9 +22,10 @@ use Rattle.table.specs.Table.{Table, Lawful, LawfulLink, mostPoints}
 use Rattle.table.specs.declared.links.Link.{Link}
 use Rattle.table.specs.declared.marks.Mark.{Mark}
 use Rattle.table.specs.declared.marks.Mark.the-variants.{Free, Kept, Barred}
-use Rattle.link_file.specs.Check.{firstFault, endsWrong, frameCases, contentCases, recordCases, recordsCases, fileCases, checked, answer, longest, shortest}
+use Rattle.table.specs.declared.refusals.FileFault.{FileFault}
+use Rattle.link_file.specs.Check.{firstFault, endsWrong, frameCases, contentCases, recordCases, recordsCases, fileCases, checked, answer, longestFile, shortestFile}
 use Rattle.link_file.specs.Format.{headerLength, recordLength, recordCount, number16, bytes16, four, recordBytes, headerBytes, fileBytes, linkAt, linksOf, fileTable, fileBudget}
-use Rattle.link_file.specs.Reading.{Stored}
+use Rattle.link_file.specs.Reading.{LawfulFile, Stored}
 use Rattle.link_file.proofs.Cells.{number-of-pair, four-in-front}
 use Rattle.link_file.proofs.Faults.{append-none, none-from, checked-ok}
 
@@ -58,7 +60,7 @@ tenths n = omega arith
 after-five : (n : ℕ) → headerLength + recordLength * n - 5 ≡ 7 + recordLength * n
 after-five n = omega arith
 
-size-passes : (n : ℕ) → n ≤ 2048 → (ltb (headerLength + recordLength * n) shortest || ltb longest (headerLength + recordLength * n)) ≡ false
+size-passes : (n : ℕ) → n ≤ 2048 → (ltb (headerLength + recordLength * n) shortestFile || ltb longestFile (headerLength + recordLength * n)) ≡ false
 size-passes n h = grind arith
 
 count-passes : (n : ℕ) → 1 ≤ n → n ≤ mostPoints → (eqb n 0 || ltb mostPoints n) ≡ false
@@ -172,7 +174,7 @@ module _ {K : Type 0} (o : Operations K) (f : Forms K) (storable : Storable o f)
 
       frame-passes : firstFault (frameCases f bytes) ≡ None
       frame-passes = none-from (frameCases f bytes) (
-        ap (λ n. ltb n shortest || ltb longest n) length-file ∙ size-passes links (lawful .short),
+        ap (λ n. ltb n shortestFile || ltb longestFile n) length-file ∙ size-passes links (lawful .short),
         (
           refl,
           (
@@ -184,7 +186,7 @@ module _ {K : Type 0} (o : Operations K) (f : Forms K) (storable : Storable o f)
 
       content-passes : firstFault (contentCases f bytes) ≡ None
       content-passes = none-from (contentCases f bytes) (
-        ap (λ n. eqb n 0 || ltb mostPoints n) points-are ∙ count-passes (t .points) (lawful .some) (lawful .few),
+        ap (λ n. eqb n 0 || ltb mostPoints n) points-are ∙ count-passes (t .points) (lawful .atLeastOne) (lawful .few),
         (
           some-passes (f .budgetOf (four bytes 8)) budget form-is-budget,
           (ap (λ n. not (eqb ((n - 7) % recordLength) 0)) field-is ∙ whole-passes links, tt),
@@ -208,3 +210,7 @@ module _ {K : Type 0} (o : Operations K) (f : Forms K) (storable : Storable o f)
             ∙ records-read (t .points) (o .zero) (t .links) (lawful .few) (lawful .each);
         same = some-value (f .budgetOf (four bytes 8)) budget (o .zero) form-is-budget;
       }
+
+  -- bytes that are such a file pass
+  pub passes-exactly : (bs : List ℕ) (r : Result (Unit {0}) FileFault) → r ≡ checked f bs → (t : Table K) (budget : K) → LawfulFile o f t budget bs → r ≡ Ok tt
+  passes-exactly bs r e t budget whole = e ∙ ap (checked f) (whole .2) ∙ stored t budget (whole .0) (whole .1) .passes

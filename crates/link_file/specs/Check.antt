@@ -17,11 +17,11 @@ use Rattle.table.specs.declared.refusals.FileFault.the-variants as file
 use Rattle.table.specs.declared.refusals.RecordFault.the-variants as record-fault
 use Rattle.link_file.specs.Format.{headerLength, recordLength, number16, four, recordCount}
 
-abbrev pub shortest : ℕ
-shortest = headerLength
+abbrev pub shortestFile : ℕ
+shortestFile = headerLength
 
-abbrev pub longest : ℕ
-longest = headerLength + recordLength * mostLinks
+abbrev pub longestFile : ℕ
+longestFile = headerLength + recordLength * mostLinks
 
 -- a fault, and whether it applies
 abbrev pub Case : Type 0
@@ -45,7 +45,7 @@ module _ {K : Type 0} (f : Forms K) where
   -- the file as a whole: its size, version, length field and kind
   abbrev pub frameCases : List ℕ → List Case
   frameCases bs =
-      (ltb (length bs) shortest || ltb longest (length bs), file.Size)
+      (ltb (length bs) shortestFile || ltb longestFile (length bs), file.Size)
       ∷ (not (eqb (getD bs 0 0) 1), file.Version)
       ∷ (not (eqb (number32 (four bs 1)) (length bs - 5)), file.LengthField)
       ∷ (not (eqb (getD bs 5 0) (f .code)), file.Kind)
@@ -82,4 +82,4 @@ module _ {K : Type 0} (f : Forms K) where
 -- a header and whole records, not too many
 pub record Whole (bs : List ℕ) : Type 0 where
   pub records : length bs ≡ headerLength + recordLength * recordCount bs
-  pub few : length bs ≤ longest
+  pub few : length bs ≤ longestFile

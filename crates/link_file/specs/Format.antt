@@ -44,7 +44,7 @@ module _ {K : Type 0} (f : Forms K) where
   abbrev pub fileBytes : Table K → K → List ℕ
   fileBytes t budget = headerBytes (length (t .links)) (t .points) budget ++ joined recordBytes (t .links)
 
--- From bytes to a table. A part that stands for nothing reads as zero, or as a free mark; bytes that pass the check have none.
+-- From bytes to a table, with the kind's zero. A part that stands for nothing reads as zero, or as a free mark; bytes that pass the check have none. A file carries zero.
 module _ {K : Type 0} (f : Forms K) (nothing : K) where
   -- the link of the record at the front
   abbrev pub linkAt : List ℕ → Link K

@@ -22,18 +22,25 @@ module _ {K : Type 0} (o : Operations K) (f : Forms K) where
     carried = o .zero;
   }
 
-  -- one point, no links, zero budget
+  -- no bytes: one point, no links, zero budget
   pub record Unfilled (r : Reader K) : Type 0 where
+    pub bytes : now (r .bytes) ≡ []
     pub table : readerTable r ≡ record { points = 1; links = []; carried = o .zero }
     pub budget : r .budget ≡ o .zero
+    pub lawful : Lawful o (readerTable r)
 
-  -- The reader stands for what the format says of these bytes, which is lawful, and written again it gives the same bytes.
+  -- The reader holds these bytes and stands for what the format says of them, which is lawful; written again it gives the same bytes.
   pub record Filled (r : Reader K) (bs : List ℕ) : Type 0 where
+    pub bytes : now (r .bytes) ≡ bs
     pub table : readerTable r ≡ fileTable f (o .zero) bs
     pub budget : r .budget ≡ fileBudget f (o .zero) bs
     pub lawful : Lawful o (readerTable r)
     pub admitted : T (o .budget (r .budget))
     pub again : fileBytes f (readerTable r) (r .budget) ≡ bs
+
+  -- the file of a lawful table and an admitted budget
+  abbrev pub LawfulFile : Table K → K → List ℕ → Type 0
+  LawfulFile t budget bs = Lawful o t × T (o .budget budget) × (bs ≡ fileBytes f t budget)
 
   -- These bytes pass the check, and stand for this table, but that they carry nothing, and for this budget.
   pub record Stored (t : Table K) (budget : K) (bs : List ℕ) : Type 0 where

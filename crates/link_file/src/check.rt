@@ -4,10 +4,12 @@ ghost use Prim.Native.Nat.{_+_, _≤_};
 ghost use lib.ListN.{length, drop};
 ghost use Rattle.std.specs.Results.{Cases};
 ghost use Rattle.std.specs.declared.option.Option.the-variants.{Some, None};
+ghost use Rattle.std.specs.declared.result.Result.the-variants.{Ok};
+ghost use Rattle.table.specs.Table.{Table};
 ghost use Rattle.table.specs.declared.refusals.FileFault.the-variants.{Record};
-ghost use Rattle.link_file.specs.Check.{firstFault, endsWrong, longest, frameCases, contentCases, recordCases, recordsCases, answer, checked, Whole};
+ghost use Rattle.link_file.specs.Check.{firstFault, endsWrong, longestFile, frameCases, contentCases, recordCases, recordsCases, answer, checked, Whole};
 ghost use Rattle.link_file.specs.Format.{headerLength, recordLength, recordCount, number16, four};
-ghost use Rattle.link_file.specs.Reading.{Filled};
+ghost use Rattle.link_file.specs.Reading.{LawfulFile, Filled};
 use super::input::Reader;
 use price::StorableKind;
 use table::MOST_LINKS;
@@ -22,7 +24,7 @@ pub(crate) const HEADER: usize = 12;
 /// The bytes of a record.
 pub(crate) const RECORD: usize = 10;
 
-/// The bytes of the longest file.
+/// The bytes of the longestFile file.
 pub const LONGEST: usize = HEADER + RECORD * MOST_LINKS;
 
 // What the header holds besides the frame.
@@ -79,7 +81,7 @@ fn check_content<K: StorableKind>(bytes: &[u8]) -> Result<Header<K>, FileFault>
 
 // The record at the front of `bytes`, which stands at a place of the file.
 fn check_record<K: StorableKind>(bytes: &[u8], at: usize, points: u16) -> Result<(), RecordFault>
-    requires { ⌜ recordLength ≤ length (now bytes) ⌝ ∗ ⌜ at + recordLength ≤ longest ⌝ }
+    requires { ⌜ recordLength ≤ length (now bytes) ⌝ ∗ ⌜ at + recordLength ≤ longestFile ⌝ }
     ensures { λ r. ⌜ Cases r (λ _. firstFault (recordCases forms points at (now (bytes .entry))) ≡ None) (λ e. firstFault (recordCases forms points at (now (bytes .entry))) ≡ Some (Record e)) ⌝ }
 {
     if bytes[0] != 9 {
@@ -113,8 +115,8 @@ fn check_records<K: StorableKind>(bytes: &[u8], points: u16) -> Result<(), FileF
 }
 
 impl<'a, K: StorableKind> Reader<'a, K> {
-    /// Checks a link file, and fills the reader with it. A refused file leaves the reader as it was.
-    pub fn check(&mut self, bytes: &'a [u8]) -> Result<(), FileFault>
+    // Checks a file part by part, and fills the reader with it.
+    fn fill(&mut self, bytes: &'a [u8]) -> Result<(), FileFault>
         ensures result { λ r. ⌜ r ≡ checked (K·StorableKind .forms) (now (bytes .entry)) ⌝ }
         ensures reader { λ r. ⌜ Cases r (λ _. Filled (K·PriceKind .operations) (K·StorableKind .forms) (now (self .exit)) (now (bytes .entry))) (λ _. now (self .exit) ≡ now (self .entry)) ⌝ }
     {
@@ -125,5 +127,15 @@ impl<'a, K: StorableKind> Reader<'a, K> {
         self.points = header.points;
         self.budget = header.budget;
         Ok(())
+    }
+
+    /// Checks a link file, and fills the reader with it. A refused file leaves the reader as it was.
+    /// A file passes exactly when it is the file of a lawful table and an admitted budget.
+    pub fn check(&mut self, bytes: &'a [u8]) -> Result<(), FileFault>
+        ensures result { λ r. ⌜ r ≡ checked (K·StorableKind .forms) (now (bytes .entry)) ⌝ }
+        ensures complete { λ r. ⌜ ((t : Table K) (budget : K) → LawfulFile (K·PriceKind .operations) (K·StorableKind .forms) t budget (now (bytes .entry)) → r ≡ Ok tt) ⌝ }
+        ensures reader { λ r. ⌜ Cases r (λ _. Filled (K·PriceKind .operations) (K·StorableKind .forms) (now (self .exit)) (now (bytes .entry))) (λ _. now (self .exit) ≡ now (self .entry)) ⌝ }
+    {
+        self.fill(bytes)
     }
 }

@@ -4,7 +4,7 @@ use Prim.Native.Nat.{ℕ}
 use lib.ListN.{take}
 use Rattle.listing.specs.declared.text.Line.{Line}
 
--- how many bytes it has room for; every line of the list is shorter
+-- how many bytes it has room for; no line of the list is longer
 abbrev pub room : ℕ
 room = 128
 

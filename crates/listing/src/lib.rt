@@ -35,15 +35,15 @@ pub use text::ROOM;
 /// Composes one line of the list into a buffer, and answers its length. Past the last line the answer is 0 and nothing is written.
 /// A buffer that is too short for the line is refused with 33 and left as it was; bytes past the line stay.
 /// No line is longer than 128 bytes.
-pub fn compose_line<K: ListedKind, T: LinkTable<K>>(
-    table: &T,
+pub fn compose_line<K: ListedKind, L: LinkTable<K>>(
+    table: &L,
     budget: K,
     number: usize,
     out: &mut [u8],
 ) -> Result<usize, PlanFault>
-    ensures value { λ r. ⌜ r ≡ writtenLength (lineOf (K·ListedKind .amount) (K·StorableKind .forms .code) (T·LinkTable .meaning (now (table .entry))) budget number) (now (out .entry)) ⌝ }
-    ensures after { λ _. ⌜ now (out .exit) ≡ writtenTo (lineOf (K·ListedKind .amount) (K·StorableKind .forms .code) (T·LinkTable .meaning (now (table .entry))) budget number) (now (out .entry)) ⌝ }
-    ensures enough { λ _. ⌜ length (lineOf (K·ListedKind .amount) (K·StorableKind .forms .code) (T·LinkTable .meaning (now (table .entry))) budget number) ≤ room ⌝ }
+    ensures value { λ r. ⌜ r ≡ writtenLength (lineOf (K·ListedKind .printed) (K·StorableKind .forms .code) (L·LinkTable .meaning (now (table .entry))) budget number) (now (out .entry)) ⌝ }
+    ensures after { λ _. ⌜ now (out .exit) ≡ writtenTo (lineOf (K·ListedKind .printed) (K·StorableKind .forms .code) (L·LinkTable .meaning (now (table .entry))) budget number) (now (out .entry)) ⌝ }
+    ensures enough { λ _. ⌜ length (lineOf (K·ListedKind .printed) (K·StorableKind .forms .code) (L·LinkTable .meaning (now (table .entry))) budget number) ≤ room ⌝ }
 {
     line_of(table, budget, number).copy_to(out)
 }
@@ -59,8 +59,8 @@ pub fn compose_refusal(fault: FileFault, out: &mut [u8]) -> Result<usize, PlanFa
 }
 
 /// The line of this number, which is empty past the last line.
-fn line_of<K: ListedKind, T: LinkTable<K>>(table: &T, budget: K, number: usize) -> Line
-    ensures { λ r. ⌜ textOf r ≡ lineOf (K·ListedKind .amount) (K·StorableKind .forms .code) (T·LinkTable .meaning (now (table .entry))) budget number ⌝ }
+fn line_of<K: ListedKind, L: LinkTable<K>>(table: &L, budget: K, number: usize) -> Line
+    ensures { λ r. ⌜ textOf r ≡ lineOf (K·ListedKind .printed) (K·StorableKind .forms .code) (L·LinkTable .meaning (now (table .entry))) budget number ⌝ }
 {
     if number == 0 {
         return head_line(
@@ -95,7 +95,7 @@ fn head_line(points: u16, links: usize, code: u8, budget: i64) -> Line
 
 /// The line of a link.
 fn link_line<K: ListedKind>(number: usize, link: Link<K>) -> Line
-    ensures { λ r. ⌜ textOf r ≡ linkLine (K·ListedKind .amount) number link ⌝ }
+    ensures { λ r. ⌜ textOf r ≡ linkLine (K·ListedKind .printed) number link ⌝ }
 {
     let mut line = Line::new();
     line.push_number(number as u64);

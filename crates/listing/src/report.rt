@@ -28,13 +28,13 @@ pub struct Report {
 }
 
 // One line more.
-fn append_line<K: ListedKind, T: LinkTable<K>>(
-    table: &T,
+fn append_line<K: ListedKind, L: LinkTable<K>>(
+    table: &L,
     budget: K,
     number: usize,
     text: &mut Vec<u8>,
 ) -> Result<(), AllocError>
-    ensures { λ r. ⌜ made r (λ _. vec-items (now (text .exit)) ≡ vec-items (now (text .entry)) ++ lineOf (K·ListedKind .amount) (K·StorableKind .forms .code) (T·LinkTable .meaning (now (table .entry))) budget number) ⌝ }
+    ensures { λ r. ⌜ made r (λ _. vec-items (now (text .exit)) ≡ vec-items (now (text .entry)) ++ lineOf (K·ListedKind .printed) (K·StorableKind .forms .code) (L·LinkTable .meaning (now (table .entry))) budget number) ⌝ }
 {
     let mut line = [0; ROOM];
     match compose_line(table, budget, number, &mut line) {
@@ -44,12 +44,12 @@ fn append_line<K: ListedKind, T: LinkTable<K>>(
 }
 
 // All lines of a table.
-fn append_table<K: ListedKind, T: LinkTable<K>>(
-    table: &T,
+fn append_table<K: ListedKind, L: LinkTable<K>>(
+    table: &L,
     budget: K,
     text: &mut Vec<u8>,
 ) -> Result<(), AllocError>
-    ensures { λ r. ⌜ made r (λ _. vec-items (now (text .exit)) ≡ vec-items (now (text .entry)) ++ tableText (K·ListedKind .amount) (K·StorableKind .forms .code) (T·LinkTable .meaning (now (table .entry))) budget) ⌝ }
+    ensures { λ r. ⌜ made r (λ _. vec-items (now (text .exit)) ≡ vec-items (now (text .entry)) ++ tableText (K·ListedKind .printed) (K·StorableKind .forms .code) (L·LinkTable .meaning (now (table .entry))) budget) ⌝ }
 {
     append_line(table, budget, 0, text)?;
     for number in 0..table.link_count() {
@@ -71,7 +71,7 @@ fn append_refusal(fault: FileFault, text: &mut Vec<u8>) -> Result<(), AllocError
 
 /// Checks a link file of a kind and lists it: every line of the list, or the line of its refusal.
 pub fn list_file<K: ListedKind>(heap: Global, bytes: &[u8]) -> Result<Report, AllocError>
-    ensures text { λ r. ⌜ made r (λ p. vec-items (p .text) ≡ fileText (K·ListedKind .amount) (K·PriceKind .operations) (K·StorableKind .forms) (now (bytes .entry))) ⌝ }
+    ensures text { λ r. ⌜ made r (λ p. vec-items (p .text) ≡ fileText (K·ListedKind .printed) (K·PriceKind .operations) (K·StorableKind .forms) (now (bytes .entry))) ⌝ }
     ensures refused { λ r. ⌜ made r (λ p. p .refused ≡ isErr (checked (K·StorableKind .forms) (now (bytes .entry)))) ⌝ }
 {
     let mut text = Vec::new(heap);

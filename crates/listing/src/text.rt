@@ -5,7 +5,7 @@ ghost use lib.ListN.{length};
 
 pub mod writing;
 
-/// How many bytes a line has room for. Every line of the list is shorter.
+/// How many bytes a line has room for. No line of the list is longer.
 pub const ROOM: usize = 128;
 
 /// A line under way. Its text is the first `len` bytes.

@@ -38,7 +38,7 @@ operations = record {
   budget = λ x. within least32 most32 (x .0);
 }
 
--- code 1; two's complement
+-- code 1; two's complement: below 2 ^ 31 a number of 32 bits stands for itself, and from there on for 2 ^ 32 less (`toZ`, and back by `ofZ`)
 abbrev pub forms : Forms Bytes
 forms = record {
   code = 1;

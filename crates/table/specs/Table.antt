@@ -31,10 +31,10 @@ pub record LawfulLink {K : Type 0} (o : Operations K) (points : ℕ) (l : Link K
 
 -- 1 to 1,024 points, at most 2,048 lawful links, and a carried total of so many admitted prices that together with the points they are at most 1,024
 pub record Lawful {K : Type 0} (o : Operations K) (t : Table K) : Type 0 where
-  pub some : 1 ≤ t .points
+  pub atLeastOne : 1 ≤ t .points
   pub few : t .points ≤ mostPoints
   pub short : length (t .links) ≤ mostLinks
   pub each : (i : ℕ) (l : Link K) → nth (t .links) i ≡ Some l → LawfulLink o (t .points) l
   pub carries : ℕ
   pub total : TotalOf o carries (t .carried)
-  pub bounded : carries + t .points ≤ 1024
+  pub bounded : carries + t .points ≤ mostPoints

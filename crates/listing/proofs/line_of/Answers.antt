@@ -7,8 +7,8 @@ use Rattle.listing.proofs.line_of.Needs as need
 
 pub returns-in-Some : need.returns-in-Some
 returns-in-Some g c =
-    let table = g .T·LinkTable .meaning (c .args .table .now) in
-    let amount = g .K·ListedKind .amount in
+    let table = g .L·LinkTable .meaning (c .args .table .now) in
+    let amount = g .K·ListedKind .printed in
     let i = c .args .number - 1 in
     let next : c .args .number ≡ suc i = omega arith in
     let place = ap (lineOf amount (g .K·StorableKind .forms .code) table (c .args .budget)) next in
@@ -16,8 +16,8 @@ returns-in-Some g c =
 
 pub returns-in-None : need.returns-in-None
 returns-in-None g c =
-    let table = g .T·LinkTable .meaning (c .args .table .now) in
-    let amount = g .K·ListedKind .amount in
+    let table = g .L·LinkTable .meaning (c .args .table .now) in
+    let amount = g .K·ListedKind .printed in
     let i = c .args .number - 1 in
     let next : c .args .number ≡ suc i = omega arith in
     let place = ap (lineOf amount (g .K·StorableKind .forms .code) table (c .args .budget)) next in

@@ -14,7 +14,7 @@ use Rattle.listing.proofs.link_line.Needs as need
 pub returns : need.returns
 returns g c =
     let l = c .args .link in
-    let amount = g .K·ListedKind .amount in
+    let amount = g .K·ListedKind .printed in
     let f : SFits w64 (c .amount .result) = search needs in
     let t₀ = begun (c .new-line .result) (c .new-line .ensures) in
     let t₁ = more (c .push-number .last .self) (decimal (c .args .number)) t₀ (c .push-number .ensures) in

@@ -12,8 +12,8 @@ use Rattle.listing.proofs.report.append_table.Needs as need
 
 pub loop-number-again : need.loop-number-again
 loop-number-again g c =
-    let amount = g .K·ListedKind .amount in
-    let table = g .T·LinkTable .meaning (c .args .table .now) in
+    let amount = g .K·ListedKind .printed in
+    let table = g .L·LinkTable .meaning (c .args .table .now) in
     let lines = linkLines amount 0 (table .links) in
     let head = headLine (table .points) (length (table .links)) (g .K·StorableKind .forms .code) (amount (c .args .budget)) in
     let i = c .loop-number .number in
@@ -29,8 +29,8 @@ loop-number-again g c =
 
 pub returns : need.returns
 returns g c =
-    let amount = g .K·ListedKind .amount in
-    let table = g .T·LinkTable .meaning (c .args .table .now) in
+    let amount = g .K·ListedKind .printed in
+    let table = g .L·LinkTable .meaning (c .args .table .now) in
     let lines = linkLines amount 0 (table .links) in
     let head = headLine (table .points) (length (table .links)) (g .K·StorableKind .forms .code) (amount (c .args .budget)) in
     let start = vec-items (c .args .text .now) in

@@ -9,5 +9,5 @@ use Rattle.listing.proofs.report.append_table.Given as given
 -- the links' lines so far
 abbrev pub Inv-loop-number : given.InvT-loop-number
 Inv-loop-number g l =
-    let lines = linkLines (g .K·ListedKind .amount) 0 (g .T·LinkTable .meaning (l .table) .links) in
+    let lines = linkLines (g .K·ListedKind .printed) 0 (g .L·LinkTable .meaning (l .table) .links) in
     vec-items (l .text) ≡ vec-items (l .entry .text) ++ joined (λ line. line) (take (l .number) lines)
