@@ -1,0 +1,49 @@
+//! The kind `steps`: a price is an even number of steps, with a tag that is added up but not compared.
+//!
+//! It keeps the laws of a price kind and few others. Different amounts may compare as equal. An odd count is the total of no
+//! prices, and at odd counts nothing of what the laws say of totals is true: such an amount is not even not above itself, and
+//! what is added to it is lost.
+ghost use Rattle.kind_tests.specs.Steps.{operations as stepwise};
+use price::PriceKind;
+
+/// The largest count of a price, and its largest tag.
+pub const MOST_STEPS: u32 = 200;
+
+pub const LARGEST_TAG: u32 = 255;
+
+/// A number of steps, with a tag.
+#[derive(Clone, Copy)]
+pub struct Steps {
+    pub count: u32,
+    pub tag: u32,
+}
+
+pub impl PriceKind for Steps as StepsKind {
+    ghost operations = { stepwise };
+
+    fn zero() -> Self {
+        Steps { count: 0, tag: 0 }
+    }
+
+    fn plus(self, other: Self) -> Self {
+        if self.count % 2 != 0 {
+            return self;
+        }
+        Steps {
+            count: self.count.saturating_add(other.count),
+            tag: self.tag.saturating_add(other.tag),
+        }
+    }
+
+    fn not_above(self, other: Self) -> bool {
+        self.count % 2 == 0 && self.count <= other.count
+    }
+
+    fn is_price(self) -> bool {
+        self.count % 2 == 0 && self.count <= MOST_STEPS && self.tag <= LARGEST_TAG
+    }
+
+    fn is_budget(self) -> bool {
+        self.count % 2 == 0
+    }
+}

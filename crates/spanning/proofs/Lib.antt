@@ -1,0 +1,10 @@
+pub mod Subsets
+pub mod Chains
+pub mod Search
+pub mod Decided
+pub mod Greedy
+pub mod Totals
+pub mod Least
+pub mod Exchange
+pub mod Supports
+pub mod Told

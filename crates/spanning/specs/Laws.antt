@@ -1,0 +1,81 @@
+-- What is proved of joined points and of trees, as statements.
+use mathlib.Core.Bool.{Bool, _||_}
+use mathlib.Core.Path.{_≡_}
+use Prim.Native.Nat.{ℕ}
+use lib.Dec.{T}
+use Rattle.price.specs.Kind.{Operations}
+use Rattle.spanning.specs.Closure.{joined?, Closure, Finite}
+use Rattle.spanning.specs.Costs.{cost, Priced}
+use Rattle.spanning.specs.Joined.{Graph, Joined}
+use Rattle.spanning.specs.Sets.{with-link, without-link}
+use Rattle.spanning.specs.Trees.{Ranked, Independent, greedy, Tree, Shown, OnPath, NoWorse, AtMostOneLeaves, LastOnPath, Rejoins, FirstToRejoin}
+
+-- whether points are joined by a set of links is decided by computation
+abbrev pub JoinedIsDecided : Type 0
+JoinedIsDecided =
+    (g : Graph) (n : ℕ) → Finite g n → (S : ℕ → Bool) (x y : ℕ) → (Joined g S x y → T (joined? g n S x y)) × (T (joined? g n S x y) → Joined g S x y)
+
+-- graphs have the facts of a closure with exchange
+abbrev pub GraphsClose : Type 0
+GraphsClose = (g : Graph) (n : ℕ) → Finite g n → Closure (λ S e. joined? g n S (g .first e) (g .second e))
+
+-- if the kept links close no ring, there is exactly one tree shown, the greedy tree
+abbrev pub OneTreeShown : Type 0
+OneTreeShown =
+    (in? : (ℕ → Bool) → ℕ → Bool) → Closure in? → (n : ℕ) (kept free : ℕ → Bool) (before : ℕ → ℕ → Bool) → Ranked n kept free before → Independent in? kept free before kept
+    → Tree in? kept free before (greedy in? kept free before)
+    × Shown in? kept free before (greedy in? kept free before)
+    × ((X : ℕ → Bool) → Tree in? kept free before X → Shown in? kept free before X → (k : ℕ) → X k ≡ greedy in? kept free before k)
+
+-- every tree costs at least as much as the greedy tree, in any order that never puts a dearer link first
+abbrev pub GreedyIsLeast : {A : Type 0} → Operations A → Type 0
+GreedyIsLeast {A} o =
+    (in? : (ℕ → Bool) → ℕ → Bool) → Closure in? → (n : ℕ) (kept free : ℕ → Bool) (before : ℕ → ℕ → Bool) → Ranked n kept free before → Independent in? kept free before kept
+    → (carried : A) (price : ℕ → A) → Priced o carried price (λ k. kept k || free k)
+    → ((a b : ℕ) → T (free a) → T (free b) → T (before a b) → T (o .notAbove (price a) (price b)))
+    → (X : ℕ → Bool) → Tree in? kept free before X → T (o .notAbove (cost o carried price n (greedy in? kept free before)) (cost o carried price n X))
+
+-- where one link is changed, at most one link leaves the greedy tree and at most one enters
+abbrev pub OneExchange : Type 0
+OneExchange =
+    (in? : (ℕ → Bool) → ℕ → Bool) → Closure in? → (n e : ℕ) (kept free : ℕ → Bool) (before : ℕ → ℕ → Bool) (kept′ free′ : ℕ → Bool) (before′ : ℕ → ℕ → Bool)
+    → Ranked n kept free before → Ranked n kept′ free′ before′ → NoWorse e kept free before kept′ free′ before′
+    → AtMostOneLeaves (greedy in? kept free before) (greedy in? kept′ free′ before′) × AtMostOneLeaves (greedy in? kept′ free′ before′) (greedy in? kept free before)
+
+-- A kind and a table, for what follows.
+module _ {A : Type 0} (o : Operations A) (in? : (ℕ → Bool) → ℕ → Bool) (n : ℕ) (kept free : ℕ → Bool) (before : ℕ → ℕ → Bool) (carried : A) (price : ℕ → A) where
+  abbrev pub greedyTree : ℕ → Bool
+  greedyTree = greedy in? kept free before
+
+  abbrev pub Trees : (ℕ → Bool) → Type 0
+  Trees = Tree in? kept free before
+
+  abbrev pub treeCost : (ℕ → Bool) → A
+  treeCost = cost o carried price n
+
+  pub record Given : Type 0 where
+    pub closed : Closure in?
+    pub ranked : Ranked n kept free before
+    pub noRing : Independent in? kept free before kept
+    pub priced : Priced o carried price (λ k. kept k || free k)
+    pub cheap : (a b : ℕ) → T (free a) → T (free b) → T (before a b) → T (o .notAbove (price a) (price b))
+
+  -- a free link outside: the least tree that holds it has it in place of its support, and without a support no tree holds it
+  pub record Holding (e : ℕ) : Type 0 where
+    pub tree : (l : ℕ) → LastOnPath in? kept free before greedyTree e l → Trees (with-link (without-link greedyTree l) e)
+    pub least : (l : ℕ) → LastOnPath in? kept free before greedyTree e l → (X : ℕ → Bool) → Trees X → T (X e) → T (o .notAbove (treeCost (with-link (without-link greedyTree l) e)) (treeCost X))
+    pub none : ((f : ℕ) → T (free f) → OnPath in? kept free before greedyTree e f → ⊥) → (X : ℕ → Bool) → Trees X → T (X e) → ⊥
+
+  -- a free link in the tree: the least tree that lacks it has its support in its place, and without a support every tree holds it
+  pub record Lacking (e : ℕ) : Type 0 where
+    pub tree : (g : ℕ) → FirstToRejoin in? kept free before greedyTree e g → Trees (with-link (without-link greedyTree e) g)
+    pub least : (g : ℕ) → FirstToRejoin in? kept free before greedyTree e g → (X : ℕ → Bool) → Trees X → (T (X e) → ⊥) → T (o .notAbove (treeCost (with-link (without-link greedyTree e) g)) (treeCost X))
+    pub all : ((g : ℕ) → Rejoins in? kept free before greedyTree e g → ⊥) → (X : ℕ → Bool) → Trees X → T (X e)
+
+-- supports tell the least tree that holds a link, and the least that lacks one
+abbrev pub SupportsTell : {A : Type 0} → Operations A → Type 0
+SupportsTell {A} o =
+    (in? : (ℕ → Bool) → ℕ → Bool) (n : ℕ) (kept free : ℕ → Bool) (before : ℕ → ℕ → Bool) (carried : A) (price : ℕ → A) → Given o in? n kept free before carried price
+    → (e : ℕ) → T (free e)
+    → ((T (greedy in? kept free before e) → ⊥) → Holding o in? n kept free before carried price e)
+    × (T (greedy in? kept free before e) → Lacking o in? n kept free before carried price e)

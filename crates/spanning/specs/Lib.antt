@@ -1,0 +1,6 @@
+pub mod Sets
+pub mod Joined
+pub mod Closure
+pub mod Trees
+pub mod Costs
+pub mod Laws
