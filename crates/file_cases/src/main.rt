@@ -19,9 +19,10 @@ use tally::Tally;
 // The bytes before the first record.
 const HEADER: usize = 12;
 
-// The place of the kind's code, and the code of the kind `drift`.
+// The place of the kind's code.
 const CODE: usize = 5;
 
+// The code of the kind `drift`.
 const DRIFT: u8 = 2;
 
 // A copy with another byte at a place.
@@ -54,6 +55,7 @@ fn turned(sheet: &[u8], place: usize, full: bool) -> u8 {
     sheet.get(place).copied().unwrap_or(0).wrapping_add(1)
 }
 
+// Every front of the file.
 fn print_lengths(rt: &LibcRuntime, sheet: &[u8]) -> io::Result<()> {
     println!(rt, "lengths")?;
     let mut run = None;
@@ -64,6 +66,7 @@ fn print_lengths(rt: &LibcRuntime, sheet: &[u8]) -> io::Result<()> {
     runs::finish(rt, run)
 }
 
+// Every front that has a header, with the length field to match.
 fn print_fitted(rt: &LibcRuntime, sheet: &[u8]) -> io::Result<()> {
     println!(rt, "lengths with the length field to match")?;
     let mut run = None;
@@ -74,6 +77,7 @@ fn print_fitted(rt: &LibcRuntime, sheet: &[u8]) -> io::Result<()> {
     runs::finish(rt, run)
 }
 
+// Every value at every place.
 fn print_changes<K: ListedKind>(rt: &LibcRuntime, title: &str, sheet: &[u8]) -> io::Result<()> {
     println!(rt, "{title}")?;
     let mut run = None;
@@ -86,6 +90,7 @@ fn print_changes<K: ListedKind>(rt: &LibcRuntime, title: &str, sheet: &[u8]) -> 
     runs::finish(rt, run)
 }
 
+// Two places at once: what is answered when two faults meet.
 fn print_pairs<K: ListedKind>(rt: &LibcRuntime, title: &str, sheet: &[u8]) -> io::Result<()> {
     println!(rt, "{title}")?;
     let mut tally = Tally::new();

@@ -8,9 +8,10 @@ use std::alloc::AllocError;
 use std::alloc::Global;
 use std::io;
 
-/// The number of the first refusal, and how many there are.
+/// The number of the first refusal.
 const FIRST: usize = 11;
 
+/// How many numbers there are.
 const NUMBERS: usize = 10;
 
 /// Counts of files.

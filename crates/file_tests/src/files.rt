@@ -24,7 +24,7 @@ pub fn put(file: &mut Vec<u8>, changes: &[Change]) {
 
 /// Sheet A with some bytes changed.
 pub fn sheet(heap: Global, changes: &[Change]) -> Result<Vec<u8>, AllocError> {
-    let mut file = Vec::from_slice(heap, &SHEET_A)?;
+    let mut file = Vec::from_slice(heap, SHEET_A)?;
     put(&mut file, changes);
     Ok(file)
 }

@@ -15,7 +15,6 @@ use listing::compose_refusal;
 use listing::list_file;
 use price::additive::Bytes;
 use price::additive::BytesForms;
-use price::additive::BytesKind;
 use price::bottleneck::Drift;
 use price::bottleneck::DriftForms;
 use std::test::*;
@@ -49,7 +48,7 @@ fn refuses(fault: FileFault, text: &[u8]) -> Result<(), Fail> {
 #[test]
 fn sheet_a() -> Result<(), Fail> {
     let mut reader = Reader::<Bytes>::new();
-    reader.check(&SHEET_A)?;
+    reader.check(SHEET_A)?;
     lists(&reader, 0, b"points 4 links 5 kind 1 budget 10\n")?;
     lists(&reader, 1, b"0 0 1 free 4\n")?;
     lists(&reader, 2, b"1 1 2 free 3\n")?;
@@ -132,7 +131,7 @@ fn other_table() -> Result<(), Fail> {
 #[test]
 fn short_buffers() -> Result<(), Fail> {
     let mut reader = Reader::<Bytes>::new();
-    reader.check(&SHEET_A)?;
+    reader.check(SHEET_A)?;
     let mut short = [7; 12];
     check_eq(
         compose_line(&reader, Bytes(10), 1, &mut short),
@@ -197,7 +196,7 @@ fn short_refusal() -> Result<(), Fail> {
 
 #[test]
 fn whole_list(rt: LibcRuntime) -> Result<(), Fail> {
-    let report = list_file::<Bytes>(rt.alloc(), &SHEET_A)?;
+    let report = list_file::<Bytes>(rt.alloc(), SHEET_A)?;
     check(!report.refused)?;
     let lines =
         b"points 4 links 5 kind 1 budget 10\n0 0 1 free 4\n1 1 2 free 3\n2 0 2 free 5\n3 2 3 kept 2\n4 1 3 free 6\n";

@@ -5,10 +5,8 @@ use super::files::repeated;
 use super::files::sheet;
 use link_file::Reader;
 use link_file::ReaderTable;
-use price::StorableKind;
 use price::additive::Bytes;
 use price::additive::BytesForms;
-use price::additive::BytesKind;
 use price::bottleneck::Drift;
 use price::bottleneck::DriftForms;
 use std::test::*;
@@ -63,7 +61,7 @@ fn unfilled_drift() -> Result<(), Fail> {
 #[test]
 fn filled() -> Result<(), Fail> {
     let mut reader = Reader::<Bytes>::new();
-    check_eq(reader.check(&SHEET_A), Ok(()))?;
+    check_eq(reader.check(SHEET_A), Ok(()))?;
     holds_sheet_a(&reader)?;
     check_eq(parts(reader.link(2_047)), None)?;
     check_eq(parts(reader.link(usize::MAX)), None)
@@ -75,7 +73,7 @@ fn refusal_leaves_the_reader(rt: LibcRuntime) -> Result<(), Fail> {
     let early = sheet(heap, &[(0, 2)])?;
     let late = sheet(heap, &[(7, 200), (11, 99), (21, 99), (58, 1)])?;
     let mut reader = Reader::<Bytes>::new();
-    check_eq(reader.check(&SHEET_A), Ok(()))?;
+    check_eq(reader.check(SHEET_A), Ok(()))?;
     check_eq(reader.check(&early), Err(FileFault::Version))?;
     holds_sheet_a(&reader)?;
     check(reader.check(&late).is_err())?;
@@ -101,7 +99,7 @@ fn filled_again(rt: LibcRuntime) -> Result<(), Fail> {
     check_eq(reader.link_count(), 2_048)?;
     check_eq(parts(reader.link(2_047)), Some((0, 1, 0, 5)))?;
     check_eq(parts(reader.link(2_048)), None)?;
-    check_eq(reader.check(&SHEET_A), Ok(()))?;
+    check_eq(reader.check(SHEET_A), Ok(()))?;
     holds_sheet_a(&reader)
 }
 

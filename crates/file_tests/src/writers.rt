@@ -13,7 +13,6 @@ use link_file::ReaderTable;
 use link_file::write;
 use price::additive::Bytes;
 use price::additive::BytesForms;
-use price::additive::BytesKind;
 use price::bottleneck::Drift;
 use price::bottleneck::DriftForms;
 use std::test::*;
@@ -21,7 +20,6 @@ use table::LinkTable;
 use table::links::Link;
 use table::marks::Mark;
 use table::refusals::FileFaultDebug;
-use table::refusals::FileFaultPartialEq;
 use table::refusals::PlanFault;
 use table::refusals::PlanFaultDebug;
 use table::refusals::PlanFaultPartialEq;
@@ -55,16 +53,16 @@ fn reads_as(file: &[u8], link: (u16, u16, u8, i32)) -> Result<(), Fail> {
 #[test]
 fn same_bytes() -> Result<(), Fail> {
     let mut reader = Reader::<Bytes>::new();
-    reader.check(&SHEET_A)?;
+    reader.check(SHEET_A)?;
     let mut out = [7; 62];
     check_eq(write(&reader, reader.budget(), &mut out), Ok(62))?;
-    check_eq(out, SHEET_A)
+    check_eq(&out, SHEET_A)
 }
 
 #[test]
 fn short_buffer() -> Result<(), Fail> {
     let mut reader = Reader::<Bytes>::new();
-    reader.check(&SHEET_A)?;
+    reader.check(SHEET_A)?;
     let mut out = [7; 61];
     check_eq(
         write(&reader, reader.budget(), &mut out),
@@ -81,30 +79,30 @@ fn short_buffer() -> Result<(), Fail> {
 #[test]
 fn bytes_past_the_file() -> Result<(), Fail> {
     let mut reader = Reader::<Bytes>::new();
-    reader.check(&SHEET_A)?;
+    reader.check(SHEET_A)?;
     let mut out = [7; 64];
     check_eq(write(&reader, reader.budget(), &mut out), Ok(62))?;
-    check_eq(&out[0..62], &SHEET_A)?;
+    check_eq(&out[0..62], SHEET_A)?;
     check_eq(&out[62..], &[7, 7])
 }
 
 #[test]
 fn written_and_read() -> Result<(), Fail> {
     let mut reader = Reader::<Bytes>::new();
-    reader.check(&SHEET_A)?;
+    reader.check(SHEET_A)?;
     let mut out = [0; 62];
     check_eq(write(&reader, Bytes(10), &mut out), Ok(62))?;
     reads_as_sheet_a(&out)
 }
 
 #[test]
-fn another_budget() -> Result<(), Fail> {
+fn another_budget(rt: LibcRuntime) -> Result<(), Fail> {
+    let file = sheet(rt.alloc(), &[(8, 255), (9, 255), (10, 255), (11, 253)])?;
     let mut reader = Reader::<Bytes>::new();
-    reader.check(&SHEET_A)?;
+    reader.check(SHEET_A)?;
     let mut out = [0; 62];
     check_eq(write(&reader, Bytes(-3), &mut out), Ok(62))?;
-    check_eq(&out[8..12], &[255, 255, 255, 253])?;
-    check_eq(&out[12..], &SHEET_A[12..])?;
+    check_eq(out.as_slice(), file.as_slice())?;
     check_eq(answer::<Bytes>(&out), Ok(()))
 }
 
@@ -160,31 +158,8 @@ fn other_table() -> Result<(), Fail> {
     };
     let mut out = [7; 23];
     check_eq(write(&table, Bytes(-1), &mut out), Ok(22))?;
-    let file = [
-        1,
-        0,
-        0,
-        0,
-        17,
-        1,
-        4,
-        0,
-        255,
-        255,
-        255,
-        255,
-        9,
-        3,
-        255,
-        1,
-        2,
-        2,
-        0xff,
-        0xf0,
-        0xbd,
-        0xc0,
-    ];
-    check_eq(&out[0..22], &file)?;
+    let file = b"\x01\0\0\0\x11\x01\x04\0\xff\xff\xff\xff\x09\x03\xff\x01\x02\x02\xff\xf0\xbd\xc0";
+    check_eq(&out[0..22], file)?;
     check_eq(out[22], 7)?;
     reads_as(&out[0..22], (1_023, 258, 2, -1_000_000))
 }

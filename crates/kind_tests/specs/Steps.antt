@@ -22,7 +22,7 @@ even n = eqb (n % 2) 0
 abbrev pub nearest : ℕ → ℕ
 nearest n = min n (2 ^ 32 - 1)
 
--- what is added to an odd count is lost, and an odd count is not above nothing
+-- an odd count is above all counts, itself too, and what is added to it is lost
 abbrev pub operations : Operations Steps
 operations = record {
   zero = of 0 0;

@@ -1,14 +1,15 @@
 //! The kind `steps`: a price is an even number of steps, with a tag that is added up but not compared.
 //!
-//! It keeps the laws of a price kind and few others. Different amounts may compare as equal. An odd count is the total of no
-//! prices, and at odd counts nothing of what the laws say of totals is true: such an amount is not even not above itself, and
-//! what is added to it is lost.
+//! It keeps the laws of a price kind and few others. Different amounts may compare as equal. No total and no budget has an odd
+//! count, so the laws do not speak of one, and there they fail: such an amount is above every other and above itself, and what
+//! is added to it is lost.
 ghost use Rattle.kind_tests.specs.Steps.{operations as stepwise};
 use price::PriceKind;
 
-/// The largest count of a price, and its largest tag.
+/// The largest count of a price.
 pub const MOST_STEPS: u32 = 200;
 
+/// The largest tag of a price.
 pub const LARGEST_TAG: u32 = 255;
 
 /// A number of steps, with a tag.

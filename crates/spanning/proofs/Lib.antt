@@ -2,9 +2,11 @@ pub mod Subsets
 pub mod Chains
 pub mod Search
 pub mod Decided
+pub mod LawfulTrees
 pub mod Greedy
 pub mod Totals
 pub mod Least
 pub mod Exchange
 pub mod Supports
 pub mod Told
+pub mod Verdict

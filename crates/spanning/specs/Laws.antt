@@ -6,7 +6,8 @@ use lib.Dec.{T}
 use Rattle.price.specs.Kind.{Operations}
 use Rattle.spanning.specs.Closure.{joined?, Closure, Finite}
 use Rattle.spanning.specs.Costs.{cost, Priced}
-use Rattle.spanning.specs.Joined.{Graph, Joined}
+use Rattle.spanning.specs.Joined.{Graph, Joined, NoRing}
+use Rattle.spanning.specs.Lawful.{LawfulTree, OnPoints, AllJoined}
 use Rattle.spanning.specs.Sets.{with-link, without-link}
 use Rattle.spanning.specs.Trees.{Ranked, Independent, greedy, Tree, Shown, OnPath, NoWorse, AtMostOneLeaves, LastOnPath, Rejoins, FirstToRejoin}
 
@@ -79,3 +80,23 @@ SupportsTell {A} o =
     → (e : ℕ) → T (free e)
     → ((T (greedy in? kept free before e) → ⊥) → Holding o in? n kept free before carried price e)
     × (T (greedy in? kept free before e) → Lacking o in? n kept free before carried price e)
+
+-- Lawful trees exist exactly if the kept links close no ring and the links that are not barred join all points. Then the greedy tree is
+-- one, and each costs at least as much: the least cost is within a budget exactly if some lawful tree's is.
+module _ {A : Type 0} (o : Operations A) (g : Graph) (points n : ℕ) (kept free : ℕ → Bool) (before : ℕ → ℕ → Bool) (carried : A) (price : ℕ → A) where
+  abbrev pub shownTree : ℕ → Bool
+  shownTree = greedy (λ S e. joined? g n S (g .first e) (g .second e)) kept free before
+
+  pub record Verdicts (budget : A) : Type 0 where
+    pub exists : NoRing g kept → AllJoined g points kept free → LawfulTree g points kept free shownTree
+    pub joined : (X : ℕ → Bool) → LawfulTree g points kept free X → AllJoined g points kept free
+    pub noRing : (X : ℕ → Bool) → LawfulTree g points kept free X → NoRing g kept
+    pub least : (X : ℕ → Bool) → LawfulTree g points kept free X → T (o .notAbove (cost o carried price n shownTree) (cost o carried price n X))
+    pub fits : (X : ℕ → Bool) → LawfulTree g points kept free X → T (o .notAbove (cost o carried price n X) budget) → T (o .notAbove (cost o carried price n shownTree) budget)
+
+abbrev pub VerdictsTell : {A : Type 0} → Operations A → Type 0
+VerdictsTell {A} o =
+    (g : Graph) (points n : ℕ) (kept free : ℕ → Bool) (before : ℕ → ℕ → Bool) (carried : A) (price : ℕ → A) (budget : A)
+    → OnPoints g points n kept free → Ranked n kept free before → Priced o carried price (λ k. kept k || free k)
+    → ((a b : ℕ) → T (free a) → T (free b) → T (before a b) → T (o .notAbove (price a) (price b)))
+    → T (o .budget budget) → Verdicts o g points n kept free before carried price budget

@@ -3,4 +3,5 @@ pub mod Joined
 pub mod Closure
 pub mod Trees
 pub mod Costs
+pub mod Lawful
 pub mod Laws

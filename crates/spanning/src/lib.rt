@@ -1,6 +1,6 @@
 //! The theory of least spanning trees, proved once: for any graph, any strict order of links that never puts a dearer link first,
 //! and any price kind with the laws. Each function's contract is a theorem.
-ghost use Rattle.spanning.specs.Laws.{JoinedIsDecided, GraphsClose, OneTreeShown, GreedyIsLeast, OneExchange, SupportsTell};
+ghost use Rattle.spanning.specs.Laws.{JoinedIsDecided, GraphsClose, OneTreeShown, GreedyIsLeast, OneExchange, SupportsTell, VerdictsTell};
 use price::PriceKind;
 
 /// Whether points are joined by a set of links is decided by computation.
@@ -41,6 +41,14 @@ pub fn one_exchange() -> u8
 /// The least tree that holds a link, and the least that lacks one, by the link's support.
 pub fn supports_tell<K: PriceKind>() -> u8
     ensures { λ _. ⌜ SupportsTell operations ⌝ }
+{
+    0
+}
+
+/// Lawful trees exist exactly if the kept links close no ring and the links that are not barred join all points; the greedy tree is
+/// then one, and it is within a budget exactly if some lawful tree is.
+pub fn verdicts_tell<K: PriceKind>() -> u8
+    ensures { λ _. ⌜ VerdictsTell operations ⌝ }
 {
     0
 }
