@@ -8,5 +8,7 @@ pub mod Totals
 pub mod Least
 pub mod Exchange
 pub mod Supports
+pub mod Contracted
 pub mod Told
 pub mod Verdict
+pub mod Found

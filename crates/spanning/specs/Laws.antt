@@ -5,6 +5,7 @@ use Prim.Native.Nat.{ℕ}
 use lib.Dec.{T}
 use Rattle.price.specs.Kind.{Operations}
 use Rattle.spanning.specs.Closure.{joined?, Closure, Finite}
+use Rattle.spanning.specs.Contraction.{contracted, between, nothing-kept, and-kept, less-kept}
 use Rattle.spanning.specs.Costs.{cost, Priced}
 use Rattle.spanning.specs.Joined.{Graph, Joined, NoRing}
 use Rattle.spanning.specs.Lawful.{LawfulTree, OnPoints, AllJoined}
@@ -100,3 +101,51 @@ VerdictsTell {A} o =
     → OnPoints g points n kept free → Ranked n kept free before → Priced o carried price (λ k. kept k || free k)
     → ((a b : ℕ) → T (free a) → T (free b) → T (before a b) → T (o .notAbove (price a) (price b)))
     → T (o .budget budget) → Verdicts o g points n kept free before carried price budget
+
+-- Contraction: with the kept links taken for granted, what is left is a closure again; its trees and its greedy tree are those below
+-- without the kept links, and cost the same once the kept prices are carried.
+module _ {A : Type 0} (o : Operations A) (in? : (ℕ → Bool) → ℕ → Bool) (n : ℕ) (kept free : ℕ → Bool) (before : ℕ → ℕ → Bool) (carried : A) (price : ℕ → A) where
+  pub record Contracts : Type 0 where
+    pub closed : Closure (contracted in? kept free)
+    pub ranked : Ranked n nothing-kept (between in? kept free) before
+    pub treeBelow : (X : ℕ → Bool) → Tree (contracted in? kept free) nothing-kept (between in? kept free) before X → Tree in? kept free before (and-kept kept X)
+    pub treeAbove : (X : ℕ → Bool) → Tree in? kept free before X → Tree (contracted in? kept free) nothing-kept (between in? kept free) before (less-kept kept X)
+    pub greedyAbove : (k : ℕ) → greedy (contracted in? kept free) nothing-kept (between in? kept free) before k ≡ less-kept kept (greedy in? kept free before) k
+    pub costs : (X : ℕ → Bool) → ((k : ℕ) → T (X k) → T (between in? kept free k)) → cost o (cost o carried price n kept) price n X ≡ cost o carried price n (and-kept kept X)
+
+abbrev pub ContractionKeeps : {A : Type 0} → Operations A → Type 0
+ContractionKeeps {A} o =
+    (in? : (ℕ → Bool) → ℕ → Bool) (n : ℕ) (kept free : ℕ → Bool) (before : ℕ → ℕ → Bool) (carried : A) (price : ℕ → A) → Given o in? n kept free before carried price
+    → Contracts o in? n kept free before carried price
+
+-- Findings: a link is out if no tree within the budget holds it, and forced if every one does.
+module _ {A : Type 0} (o : Operations A) (in? : (ℕ → Bool) → ℕ → Bool) (n : ℕ) (kept free : ℕ → Bool) (before : ℕ → ℕ → Bool) (carried : A) (price : ℕ → A) (budget : A) where
+  abbrev pub Within : (ℕ → Bool) → Type 0
+  Within X = T (o .notAbove (cost o carried price n X) budget)
+
+  abbrev pub Out : ℕ → Type 0
+  Out e = (X : ℕ → Bool) → Tree in? kept free before X → Within X → T (X e) → ⊥
+
+  abbrev pub Forced : ℕ → Type 0
+  Forced e = (X : ℕ → Bool) → Tree in? kept free before X → Within X → T (X e)
+
+  -- the tree shown with one link in place of another
+  abbrev pub exchangedTree : ℕ → ℕ → ℕ → Bool
+  exchangedTree gone come = with-link (without-link (greedy in? kept free before) gone) come
+
+  -- where the tree shown is within the budget, one more cost tells each finding
+  pub record Findings (e : ℕ) : Type 0 where
+    pub outside : (T (greedy in? kept free before e) → ⊥) → Forced e → ⊥
+    pub notOut : (T (greedy in? kept free before e) → ⊥) → (l : ℕ) → LastOnPath in? kept free before (greedy in? kept free before) e l → Within (exchangedTree l e) → Out e → ⊥
+    pub isOut : (T (greedy in? kept free before e) → ⊥) → (l : ℕ) → LastOnPath in? kept free before (greedy in? kept free before) e l → (Within (exchangedTree l e) → ⊥) → Out e
+    pub outAlone : (T (greedy in? kept free before e) → ⊥) → ((f : ℕ) → T (free f) → OnPath in? kept free before (greedy in? kept free before) e f → ⊥) → Out e
+    pub inside : T (greedy in? kept free before e) → Out e → ⊥
+    pub notForced : T (greedy in? kept free before e) → (g : ℕ) → FirstToRejoin in? kept free before (greedy in? kept free before) e g → Within (exchangedTree e g) → Forced e → ⊥
+    pub isForced : T (greedy in? kept free before e) → (g : ℕ) → FirstToRejoin in? kept free before (greedy in? kept free before) e g → (Within (exchangedTree e g) → ⊥) → Forced e
+    pub forcedAlone : T (greedy in? kept free before e) → ((g : ℕ) → Rejoins in? kept free before (greedy in? kept free before) e g → ⊥) → Forced e
+
+abbrev pub FindingsTell : {A : Type 0} → Operations A → Type 0
+FindingsTell {A} o =
+    (in? : (ℕ → Bool) → ℕ → Bool) (n : ℕ) (kept free : ℕ → Bool) (before : ℕ → ℕ → Bool) (carried : A) (price : ℕ → A) → Given o in? n kept free before carried price
+    → (budget : A) → T (o .budget budget) → T (o .notAbove (cost o carried price n (greedy in? kept free before)) budget)
+    → (e : ℕ) → T (free e) → Findings o in? n kept free before carried price budget e

@@ -1,6 +1,6 @@
 //! The theory of least spanning trees, proved once: for any graph, any strict order of links that never puts a dearer link first,
 //! and any price kind with the laws. Each function's contract is a theorem.
-ghost use Rattle.spanning.specs.Laws.{JoinedIsDecided, GraphsClose, OneTreeShown, GreedyIsLeast, OneExchange, SupportsTell, VerdictsTell};
+ghost use Rattle.spanning.specs.Laws.{JoinedIsDecided, GraphsClose, OneTreeShown, GreedyIsLeast, OneExchange, SupportsTell, VerdictsTell, ContractionKeeps, FindingsTell};
 use price::PriceKind;
 
 /// Whether points are joined by a set of links is decided by computation.
@@ -49,6 +49,20 @@ pub fn supports_tell<K: PriceKind>() -> u8
 /// then one, and it is within a budget exactly if some lawful tree is.
 pub fn verdicts_tell<K: PriceKind>() -> u8
     ensures { λ _. ⌜ VerdictsTell operations ⌝ }
+{
+    0
+}
+
+/// With the kept links taken for granted, trees, the greedy tree and costs are those below without them.
+pub fn contraction_keeps<K: PriceKind>() -> u8
+    ensures { λ _. ⌜ ContractionKeeps operations ⌝ }
+{
+    0
+}
+
+/// Where the tree shown is within the budget, the cost of one more tree tells whether a link is out, forced or neither.
+pub fn findings_tell<K: PriceKind>() -> u8
+    ensures { λ _. ⌜ FindingsTell operations ⌝ }
 {
     0
 }
