@@ -12,3 +12,5 @@ pub mod Contracted
 pub mod Told
 pub mod Verdict
 pub mod Found
+pub mod Climbs
+pub mod Represented

@@ -6,3 +6,4 @@ pub mod Costs
 pub mod Contraction
 pub mod Lawful
 pub mod Laws
+pub mod Roots

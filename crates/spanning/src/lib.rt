@@ -3,6 +3,8 @@
 ghost use Rattle.spanning.specs.Laws.{JoinedIsDecided, GraphsClose, OneTreeShown, GreedyIsLeast, OneExchange, SupportsTell, VerdictsTell, ContractionKeeps, FindingsTell};
 use price::PriceKind;
 
+pub mod components;
+
 /// Whether points are joined by a set of links is decided by computation.
 pub fn joined_is_decided() -> u8
     ensures { λ _. ⌜ JoinedIsDecided ⌝ }
