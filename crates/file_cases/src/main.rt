@@ -1,5 +1,7 @@
 //! Checks changed copies of the link file on standard input, and prints what the check answers for each.
 //! The file `stdout` comes from samples/decode.py, which shares no code with the library.
+#![tactic(auto)]
+
 mod digest;
 mod runs;
 mod tally;

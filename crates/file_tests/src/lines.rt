@@ -121,7 +121,7 @@ fn other_table(rt: HostRuntime) {
     assert_eq!(rt; compose_line(&table, Bytes(-1), 0, &mut out), Ok(38));
     assert_eq!(rt; &out, b"points 65535 links 1 kind 1 budget -1\n");
     assert_eq!(rt; compose_line(&table, Bytes(-1), 1, &mut out), Ok(31));
-    assert_eq!(rt; &out[0..31], b"0 65535 65535 kept -2147483648\n");
+    assert_eq!(rt; &out[0..31], b"0 65535 65535 kept -2147483648\n".as_slice());
     assert_eq!(rt; compose_line(&table, Bytes(-1), 2, &mut out), Ok(0));
 }
 
@@ -192,7 +192,7 @@ fn short_refusal(rt: HostRuntime) {
     assert_eq!(rt; short, [7; 15]);
     let mut more = [7; 17];
     assert_eq!(rt; compose_refusal(FileFault::Size, &mut more), Ok(16));
-    assert_eq!(rt; &more[0..16], b"refused 11 at 0\n");
+    assert_eq!(rt; &more[0..16], b"refused 11 at 0\n".as_slice());
     assert_eq!(rt; more[16], 7);
 }
 
@@ -202,7 +202,7 @@ fn whole_list(rt: HostRuntime) -> Result<(), Fail> {
     assert!(rt; !report.refused);
     let lines =
         b"points 4 links 5 kind 1 budget 10\n0 0 1 free 4\n1 1 2 free 3\n2 0 2 free 5\n3 2 3 kept 2\n4 1 3 free 6\n";
-    assert_eq!(rt; report.text.as_slice(), lines);
+    assert_eq!(rt; report.text.as_slice(), lines.as_slice());
     Ok(())
 }
 
@@ -212,6 +212,6 @@ fn refused_list(rt: HostRuntime) -> Result<(), Fail> {
     let file = sheet(heap, &[(36, 0)])?;
     let report = list_file::<Bytes>(heap, &file)?;
     assert!(rt; report.refused);
-    assert_eq!(rt; report.text.as_slice(), b"refused 18 at 33\n");
+    assert_eq!(rt; report.text.as_slice(), b"refused 18 at 33\n".as_slice());
     Ok(())
 }

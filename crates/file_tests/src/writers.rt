@@ -75,8 +75,8 @@ fn bytes_past_the_file(rt: HostRuntime) -> Result<(), Fail> {
     reader.check(SHEET_A)?;
     let mut out = [7; 64];
     assert_eq!(rt; write(&reader, reader.budget(), &mut out), Ok(62));
-    assert_eq!(rt; &out[0..62], SHEET_A);
-    assert_eq!(rt; &out[62..], &[7, 7]);
+    assert_eq!(rt; &out[0..62], SHEET_A.as_slice());
+    assert_eq!(rt; &out[62..], [7, 7].as_slice());
     Ok(())
 }
 
@@ -156,7 +156,7 @@ fn other_table(rt: HostRuntime) -> Result<(), Fail> {
     let mut out = [7; 23];
     assert_eq!(rt; write(&table, Bytes(-1), &mut out), Ok(22));
     let file = b"\x01\0\0\0\x11\x01\x04\0\xff\xff\xff\xff\x09\x03\xff\x01\x02\x02\xff\xf0\xbd\xc0";
-    assert_eq!(rt; &out[0..22], file);
+    assert_eq!(rt; &out[0..22], file.as_slice());
     assert_eq!(rt; out[22], 7);
     reads_as(&rt, &out[0..22], (1_023, 258, 2, -1_000_000))
 }

@@ -1,4 +1,5 @@
 //! Least spanning trees on fixed memory.
+#![tactic(auto)]
 
 pub mod growing;
 pub mod merges;

@@ -1,8 +1,8 @@
 -- The laws of the kind `steps`. Totals of prices have even counts.
-use Rattle.std.specs.Prelude.{◌≡◌, ℕ, ◌+◌, ◌-◌, ◌*◌, ◌%◌, ◌^◌, ◌<◌, ◌≤◌, min, Bool, true, false, cond, ◌&&◌, T, ◌⊎◌, nat_le, refl}
+use Rattle.std.specs.Prelude.{◌≡◌, ℕ, ◌+◌, ◌*◌, ◌%◌, ◌≤◌, Bool, true, false, cond, ◌&&◌, T, ◌⊎◌, nat_le, refl}
 use Rattle.std.proofs.Common.{sym, ap, subst, ◌∙◌, inl, inr, arith, eq-eqb, leb→le, le→leb, eqb→eq}
 use Rattle.std.proofs.Math.Decide.{dec_le}
-use Rattle.price.specs.Kind.{Operations, TotalOf, Compared, Laws, longest}
+use Rattle.price.specs.Kind.{TotalOf, Compared, Laws}
 use Rattle.price.specs.Kind.TotalOf.{none, one, both}
 use Rattle.price.specs.Kind.Compared.{total, limit}
 use Rattle.kind_tests.specs.Steps.{of, even, nearest, operations}

@@ -1,7 +1,7 @@
 -- Bytes by their places, and numbers of two bytes.
-use Rattle.std.proofs.Common.{◌≡◌, ℕ, zero, suc, ◌+◌, ◌-◌, ◌*◌, ◌/◌, ◌%◌, ◌<◌, ◌≤◌, List, [], ◌∷◌, ◌++◌, length, get_or, drop, sym, refl, ap, ◌∙◌, add-zero, arith}
+use Rattle.std.proofs.Common.{◌≡◌, ℕ, zero, suc, ◌+◌, ◌*◌, ◌/◌, ◌%◌, ◌<◌, ◌≤◌, List, [], ◌∷◌, ◌++◌, length, get_or, drop, sym, refl, ap, ◌∙◌, add-zero, arith}
 use Rattle.std.proofs.lemmas.List.{drop_more}
-use Rattle.link_file.specs.Format.{number16, bytes16, four}
+use Rattle.link_file.specs.Format.{bytes16, four}
 
 -- n bytes from place i on
 abbrev pub cells : List ℕ → ℕ → ℕ → List ℕ

@@ -1,8 +1,8 @@
 -- What passes the check is lawful, and written again it gives the same bytes.
-use Rattle.std.proofs.Common.{◌≡◌, ℕ, zero, suc, ◌+◌, ◌-◌, ◌*◌, ◌/◌, ◌%◌, ◌<◌, ◌≤◌, Bool, true, false, cond, not, ◌&&◌, ◌||◌, T, eqb, ltb, List, [], ◌∷◌, ◌++◌, length, get_or, drop, is_some, Some, None, Option, unwrap_or, sym, refl, ap, ◌∙◌, subst, arith, eqb→eq}
+use Rattle.std.proofs.Common.{◌≡◌, ℕ, zero, suc, ◌+◌, ◌-◌, ◌*◌, ◌/◌, ◌%◌, ◌<◌, ◌≤◌, Bool, true, false, not, ◌&&◌, ◌||◌, T, eqb, ltb, List, [], ◌∷◌, ◌++◌, length, get_or, drop, is_some, Some, None, Option, unwrap_or, sym, refl, ap, ◌∙◌, subst, arith}
 use Rattle.std.proofs.lemmas.List.{get_or-drop, length-drop, drop-drop}
 use Rattle.std.specs.List.{slice_get, flat_map}
-use Rattle.price.specs.Kind.{Operations, TotalOf}
+use Rattle.price.specs.Kind.{Operations}
 use Rattle.price.specs.Kind.TotalOf.{none}
 use Rattle.price.specs.Forms.{Forms, Storable, Tied, Four, number32, bytes32}
 use Rattle.price.specs.FourBytes.{bytes_of_number}
@@ -10,8 +10,7 @@ use Rattle.table.specs.Marks.{mark_number, mark_of}
 use Rattle.table.specs.Table.{Table, Lawful, LawfulLink, most_points}
 use Rattle.table.specs.declared.links.Link.{Link}
 use Rattle.table.specs.declared.marks.Mark.TheVariants.{Free}
-use Rattle.table.specs.declared.refusals.FileFault.{FileFault}
-use Rattle.link_file.specs.Check.{Case, first_fault, ends_wrong, frame_cases, content_cases, record_cases, records_cases, longest_file, shortest_file}
+use Rattle.link_file.specs.Check.{first_fault, ends_wrong, frame_cases, content_cases, record_cases, records_cases, longest_file, shortest_file}
 use Rattle.link_file.specs.Format.{header_length, record_length, record_count, number16, bytes16, four, record_bytes, header_bytes, file_bytes, link_at, links_of, file_table, file_budget}
 use Rattle.link_file.specs.Reading.{reader_table, Filled}
 use Rattle.link_file.specs.declared.input.Reader.{Reader}

@@ -1,9 +1,9 @@
 -- What is written of a lawful table passes the check, and reads as the same table and budget.
-use Rattle.std.proofs.Common.{◌≡◌, ℕ, zero, suc, ◌+◌, ◌-◌, ◌*◌, ◌/◌, ◌%◌, ◌^◌, ◌<◌, ◌≤◌, Bool, true, false, cond, not, ◌&&◌, ◌||◌, T, eqb, ltb, List, [], ◌∷◌, ◌++◌, length, get_or, take, drop, is_some, Some, None, Ok, Err, Option, Result, unwrap_or, sym, refl, ap, ◌∙◌, subst, append_assoc, arith}
-use Rattle.std.proofs.lemmas.List.{length-append, drop_at, take_at}
+use Rattle.std.proofs.Common.{◌≡◌, ℕ, suc, ◌+◌, ◌-◌, ◌*◌, ◌/◌, ◌%◌, ◌<◌, ◌≤◌, false, not, ◌||◌, T, eqb, ltb, List, [], ◌∷◌, ◌++◌, length, drop, is_some, Some, None, Ok, Option, Result, unwrap_or, sym, refl, ap, ◌∙◌, arith}
+use Rattle.std.proofs.lemmas.List.{length-append, drop_at}
 use Rattle.std.specs.List.{slice_get, flat_map}
 use Rattle.price.specs.Kind.{Operations}
-use Rattle.price.specs.Forms.{Forms, Storable, Four, number32, bytes32}
+use Rattle.price.specs.Forms.{Forms, Storable, number32}
 use Rattle.price.specs.FourBytes.{number_of_bytes}
 use Rattle.table.specs.Marks.{mark_number, mark_of}
 use Rattle.table.specs.Table.{Table, Lawful, LawfulLink, most_points}
@@ -11,8 +11,8 @@ use Rattle.table.specs.declared.links.Link.{Link}
 use Rattle.table.specs.declared.marks.Mark.{Mark}
 use Rattle.table.specs.declared.marks.Mark.TheVariants.{Free, Kept, Barred}
 use Rattle.table.specs.declared.refusals.FileFault.{FileFault}
-use Rattle.link_file.specs.Check.{first_fault, ends_wrong, frame_cases, content_cases, record_cases, records_cases, file_cases, checked, answer, longest_file, shortest_file}
-use Rattle.link_file.specs.Format.{header_length, record_length, record_count, number16, bytes16, four, record_bytes, header_bytes, file_bytes, link_at, links_of, file_table, file_budget}
+use Rattle.link_file.specs.Check.{first_fault, ends_wrong, frame_cases, content_cases, record_cases, records_cases, checked, longest_file, shortest_file}
+use Rattle.link_file.specs.Format.{header_length, record_length, record_count, number16, four, record_bytes, header_bytes, file_bytes, link_at, links_of}
 use Rattle.link_file.specs.Reading.{LawfulFile, Stored}
 use Rattle.link_file.proofs.Cells.{number_of_pair, four_in_front}
 use Rattle.link_file.proofs.Faults.{append_none, none_from, checked_ok}

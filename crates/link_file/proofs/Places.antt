@@ -1,10 +1,10 @@
 -- Parts of a buffer that are overwritten.
-use Rattle.std.proofs.Common.{◌≡◌, ℕ, zero, suc, ◌+◌, ◌-◌, ◌*◌, ◌<◌, ◌≤◌, true, false, cond, leb, List, [], ◌∷◌, ◌++◌, length, take, drop, Some, None, Ok, Err, sym, refl, ap, ◌∙◌, append_assoc, arith}
+use Rattle.std.proofs.Common.{◌≡◌, ℕ, zero, suc, ◌+◌, ◌<◌, ◌≤◌, true, false, cond, leb, List, [], ◌∷◌, ◌++◌, length, take, drop, Some, None, Ok, Err, sym, refl, ap, ◌∙◌, append_assoc, arith}
 use borrow.Rule.Slice.PartMut.{put_mid}
 use Rattle.std.specs.List.{slice_get, flat_map}
 use Rattle.table.specs.Buffers.{written_length, written_to}
 use Rattle.table.specs.declared.refusals.PlanFault.TheVariants.{ShortBuffer}
-use Rattle.std.proofs.lemmas.List.{length-append, length-take-le, drop-drop, drop_at, take_at, append-nil}
+use Rattle.std.proofs.lemmas.List.{length-append, drop-drop, drop_at, take_at, append-nil}
 
 -- a part written by `copy_from_slice`
 pub put_mid_lem : (at k n : ℕ) (xs ys zs : List ℕ) → n ≡ k → ys ≡ zs → put_mid at n xs ys ≡ take at xs ++ (zs ++ drop (at + k) xs)

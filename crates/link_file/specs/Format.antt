@@ -2,7 +2,7 @@
 use Rattle.std.specs.Prelude.{ℕ, zero, suc, ◌+◌, ◌-◌, ◌*◌, ◌/◌, ◌%◌, List, [], ◌∷◌, ◌++◌, length, drop, slice_index}
 use Rattle.std.specs.Option.{unwrap_or}
 use Rattle.std.specs.List.{flat_map}
-use Rattle.price.specs.Forms.{Forms, number32, bytes32}
+use Rattle.price.specs.Forms.{Forms, bytes32}
 use Rattle.table.specs.Marks.{mark_number, mark_of}
 use Rattle.table.specs.Table.{Table}
 use Rattle.table.specs.declared.links.Link.{Link}

@@ -29,7 +29,7 @@ struct Header<K> {
 
 // Size, version, length field and kind's code.
 fn check_frame<K: StorableKind>(bytes: &[u8]) -> Result<(), FileFault>
-    ensures { result ≡ answer (first_fault (frame_cases forms bytes.now)) }
+    ensures { result ≡ answer (first_fault (frame_cases K.forms bytes.now)) }
 {
     if bytes.len() < HEADER || bytes.len() > LONGEST {
         return Err(FileFault::Size);
@@ -56,8 +56,8 @@ fn ends_wrong(points: u16, first: u16, second: u16) -> bool
 
 // Point count and budget, and that the links are whole records, of a file whose frame is right.
 fn check_content<K: StorableKind>(bytes: &[u8]) -> Result<Header<K>, FileFault>
-    requires { first_fault (frame_cases forms bytes.now) ≡ None }
-    ensures { MatchResult result (λ h. (first_fault (content_cases forms bytes.now) ≡ None) × (h.points ≡ number16 bytes.now 6) × (forms.budget_of (four bytes.now 8) ≡ Some h.budget)) (λ e. first_fault (content_cases forms bytes.now) ≡ Some e) }
+    requires { first_fault (frame_cases K.forms bytes.now) ≡ None }
+    ensures { MatchResult result (λ h. (first_fault (content_cases K.forms bytes.now) ≡ None) × (h.points ≡ number16 bytes.now 6) × (K.forms.budget_of (four bytes.now 8) ≡ Some h.budget)) (λ e. first_fault (content_cases K.forms bytes.now) ≡ Some e) }
 {
     let points = u16::from_be_bytes([bytes[6], bytes[7]]);
     if points == 0 || points > MOST_POINTS {
@@ -75,7 +75,7 @@ fn check_content<K: StorableKind>(bytes: &[u8]) -> Result<Header<K>, FileFault>
 // The record at the front of `bytes`, which stands at a place of the file.
 fn check_record<K: StorableKind>(bytes: &[u8], at: usize, points: u16) -> Result<(), RecordFault>
     requires { (record_length ≤ length bytes.now) × (at + record_length ≤ longest_file) }
-    ensures { MatchResult result (λ _. first_fault (record_cases forms points at bytes.now) ≡ None) (λ e. first_fault (record_cases forms points at bytes.now) ≡ Some (Record e)) }
+    ensures { MatchResult result (λ _. first_fault (record_cases K.forms points at bytes.now) ≡ None) (λ e. first_fault (record_cases K.forms points at bytes.now) ≡ Some (Record e)) }
 {
     if bytes[0] != 9 {
         return Err(RecordFault::Length(at));
@@ -97,7 +97,7 @@ fn check_record<K: StorableKind>(bytes: &[u8], at: usize, points: u16) -> Result
 // The records of a file whose header is right.
 fn check_records<K: StorableKind>(bytes: &[u8], points: u16) -> Result<(), FileFault>
     requires { Whole bytes.now }
-    ensures { result ≡ answer (first_fault (records_cases forms points (record_count bytes.now) header_length (drop header_length bytes.now))) }
+    ensures { result ≡ answer (first_fault (records_cases K.forms points (record_count bytes.now) header_length (drop header_length bytes.now))) }
 {
     let count = (bytes.len() - HEADER) / RECORD;
     for number in 0..count {

@@ -1,4 +1,6 @@
 //! The link file: a check that fills a reader, the reader as a link table over the bytes, and the writer.
+#![tactic(auto)]
+
 mod check;
 mod input;
 mod reading;

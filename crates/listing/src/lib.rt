@@ -10,6 +10,8 @@
 //! ```
 //!
 //! Numbers are decimal, a negative one has a minus sign, and each line ends in byte 10.
+#![tactic(auto)]
+
 ghost use Rattle.std.specs.Prelude.{◌≡◌, ◌≤◌, length};
 ghost use Rattle.table.specs.Buffers.{written_length, written_to};
 ghost use Rattle.listing.specs.Lines.{head_line, link_line, line_of, refusal_line, mark_word};

@@ -1,5 +1,5 @@
 -- The kind `bytes`: whole prices, negative for a link that saves bytes; a total is the sum.
-use Rattle.std.specs.Prelude.{◌≡◌, ℕ, Bool, ◌&&◌, ℤ, pos, ◌+ℤ◌, neg_ℤ, int_le}
+use Rattle.std.specs.Prelude.{Bool, ◌&&◌, ℤ, pos, ◌+ℤ◌, neg_ℤ, int_le}
 use Rattle.std.specs.Int.{saturate_to_bits, w32}
 use Rattle.std.proofs.Common.{to_z, of_z}
 use Rattle.price.specs.Kind.{Operations}

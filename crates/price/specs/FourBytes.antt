@@ -1,6 +1,6 @@
 -- Four bytes and the number that they stand for; what a kind's forms promise of one form.
-use Rattle.std.specs.Prelude.{◌≡◌, ℕ, zero, suc, ◌+◌, ◌*◌, ◌/◌, ◌%◌, ◌^◌, ◌<◌, ◌≤◌, Bool, true, false, cond, T, List, [], ◌∷◌, length, Some, None, Option, MatchOption, ◌≢◌, slice_index, refl}
-use Rattle.std.proofs.Common.{sym, ap, ◌∙◌, arith}
+use Rattle.std.specs.Prelude.{◌≡◌, ℕ, zero, suc, ◌+◌, ◌*◌, ◌/◌, ◌%◌, ◌^◌, ◌<◌, Bool, true, false, cond, T, List, [], ◌∷◌, Some, None, Option, MatchOption, ◌≢◌, slice_index, refl}
+use Rattle.std.proofs.Common.{sym, ap, arith}
 use Rattle.price.specs.Forms.{number32, bytes32, Four, only, Tied}
 
 pub number_of_bytes : (n : ℕ) → n < 2 ^ 32 → number32 (bytes32 n) ≡ n

@@ -1,11 +1,10 @@
 -- The laws of the kind `drift`: largest numbers. Its forms.
-use Rattle.std.specs.Prelude.{◌≡◌, ℕ, ◌+◌, ◌^◌, ◌<◌, ◌≤◌, max, Bool, true, false, T, ◌⊎◌, List, Some, nat_le, refl}
+use Rattle.std.specs.Prelude.{ℕ, ◌^◌, ◌<◌, max, T, ◌⊎◌, nat_le, refl}
 use Rattle.std.proofs.Common.{sym, ap, subst, ◌∙◌, inl, inr, arith, leb→le, le→leb}
 use Rattle.std.proofs.Math.Decide.{dec_le}
-use Rattle.price.specs.Kind.{TotalOf, Compared, Laws, longest}
-use Rattle.price.specs.Forms.{number32, bytes32, Four, Tied, Storable, only}
+use Rattle.price.specs.Kind.{Laws}
+use Rattle.price.specs.Forms.{number32, bytes32, Tied, Storable, only}
 use Rattle.price.specs.Bottleneck.{of, within, largest, largest_budget, operations, forms}
-use Rattle.price.specs.declared.bottleneck.Drift.{Drift}
 use Rattle.price.specs.FourBytes.{number_of_bytes, bytes_of_number, four_bytes, only_yes, only_some}
 
 either : (m n : ℕ) → T (nat_le m n) ⊎ T (nat_le n m)

@@ -1,13 +1,13 @@
 -- The laws of the kind `bytes`: sums of whole numbers.
-use Rattle.std.specs.Prelude.{◌≡◌, ℕ, ◌+◌, ◌-◌, ◌*◌, ◌^◌, ◌<◌, ◌≤◌, min, Bool, true, false, ◌&&◌, T, ◌⊎◌, ℤ, pos, negsuc, ◌+ℤ◌, neg_ℤ, ◌≤ℤ◌, FitsSigned, int_le, refl}
+use Rattle.std.specs.Prelude.{◌≡◌, ℕ, ◌+◌, ◌*◌, ◌^◌, ◌<◌, ◌≤◌, Bool, true, false, ◌&&◌, T, ◌⊎◌, ℤ, pos, negsuc, ◌+ℤ◌, neg_ℤ, ◌≤ℤ◌, FitsSigned, int_le}
 use Rattle.std.proofs.Common.{sym, ap, subst, ◌∙◌, inl, inr, arith, to_z, of_z}
 use Rattle.std.specs.Int.Signed.{le_z_yes}
 use Rattle.std.specs.Int.{saturate_to_bits, w32}
 use Rattle.std.proofs.lemmas.Int.{ints, by_lt_z, to_z-of_z, of_z-to_z}
-use Rattle.price.specs.Kind.{Operations, TotalOf, Compared, Laws, longest}
+use Rattle.price.specs.Kind.{TotalOf, Laws}
 use Rattle.price.specs.Kind.TotalOf.{none, one, both}
 use Rattle.price.specs.Additive.{largest, least32, most32, within, of, operations, forms}
-use Rattle.price.specs.Forms.{number32, bytes32, Four, Tied, Storable, only}
+use Rattle.price.specs.Forms.{number32, bytes32, Tied, Storable, only}
 use Rattle.price.specs.FourBytes.{number_of_bytes, number_below_lem, bytes_of_number, four_bytes, only_yes, only_some}
 use Rattle.price.specs.declared.additive.Bytes.{Bytes}
 

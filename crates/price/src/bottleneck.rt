@@ -1,5 +1,5 @@
 //! The kind `drift`: a price is a number of sixty-fourths of a pixel, and a total is the largest price.
-ghost use Rattle.price.specs.Bottleneck.{operations as largest-of, forms as unsigned};
+ghost use Rattle.price.specs.Bottleneck.{operations as largest_of, forms as unsigned};
 ghost use Rattle.price.specs.Maxima;
 ghost use Rattle.price.specs.Maxima.{storable};
 
@@ -16,7 +16,7 @@ pub const LARGEST_BUDGET: u32 = 65_535;
 pub struct Drift(pub u32);
 
 impl PriceKind for Drift {
-    ghost operations = { largest-of };
+    ghost operations = { largest_of };
 
     ghost lawful = { Maxima.lawful };
 

@@ -1,4 +1,6 @@
 //! Price kinds: what a price, a total of prices and a budget are, how they add and compare, and how they are stored.
+#![tactic(auto)]
+
 ghost use Rattle.std.specs.Prelude.{◌≡◌, T, Some, None, MatchOption, ◌≢◌};
 ghost use Rattle.price.specs.Forms.{Forms, Storable};
 ghost use Rattle.price.specs.Kind.{Operations, Laws};

@@ -1,8 +1,8 @@
 -- Chains of links: they can be turned round, put together, and split at a link.
-use Rattle.std.proofs.Common.{◌≡◌, ℕ, Bool, T, ◌⊎◌, sym, refl, ap, ◌∙◌, subst, inl, inr}
+use Rattle.std.proofs.Common.{◌≡◌, ℕ, Bool, T, ◌⊎◌, sym, subst, inl, inr}
 use Rattle.spanning.specs.Joined.{Graph, Joined, Spans}
 use Rattle.spanning.specs.Joined.Joined.{same, forth, back}
-use Rattle.spanning.specs.Sets.{with_link, without_link}
+use Rattle.spanning.specs.Sets.{with_link}
 use Rattle.spanning.proofs.Subsets.{with_old, with_new, with_cases, Within}
 
 module _ (g : Graph) where

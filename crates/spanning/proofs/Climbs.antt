@@ -1,9 +1,9 @@
 -- Climbing a forest of parents.
-use Rattle.std.proofs.Common.{◌≡◌, ℕ, zero, suc, ◌+◌, ◌<◌, ◌≤◌, min, max, Bool, true, false, cond, T, eqb, ◌≢◌, ◌⊎◌, List, length, get_or, set, replicate, sym, refl, ap, ◌∙◌, subst, inl, inr, arith, eqb→eq}
+use Rattle.std.proofs.Common.{◌≡◌, ℕ, zero, suc, ◌+◌, ◌<◌, ◌≤◌, min, max, Bool, true, false, cond, eqb, List, length, get_or, set, replicate, sym, refl, ap, ◌∙◌, subst, inl, inr, arith}
 use native.Mathlib.Decide.{dec_lt}
 use Rattle.std.proofs.lemmas.List.{get_or-set_same, get_or-set_other, get_or_past}
 use Rattle.spanning.specs.Roots.{Forest, steps_up, root_of, under}
-use Rattle.spanning.proofs.Subsets.{same_or, true_or}
+use Rattle.spanning.proofs.Subsets.{same_or}
 
 -- a root stays
 root_stays : (ps : List ℕ) (n x : ℕ) → get_or ps x 0 ≡ x → steps_up n ps x ≡ x

@@ -1,14 +1,14 @@
 -- Over the parts joined by kept links, trees, the greedy tree and costs correspond to those below.
-use Rattle.std.proofs.Common.{◌≡◌, ℕ, zero, suc, ◌+◌, ◌<◌, ◌≤◌, Bool, true, false, cond, not, ◌&&◌, ◌||◌, T, ltb, ◌⊎◌, sym, refl, ap, ◌∙◌, subst, inl, inr, arith, ltb→lt, lt→ltb}
+use Rattle.std.proofs.Common.{◌≡◌, ℕ, zero, suc, ◌<◌, ◌≤◌, Bool, true, false, cond, not, ◌&&◌, ◌||◌, T, ltb, ◌⊎◌, sym, refl, ap, ◌∙◌, subst, inl, inr, arith, ltb→lt, lt→ltb}
 use Rattle.price.specs.Kind.{Operations, Laws}
 use Rattle.spanning.specs.Closure.{Closure}
 use Rattle.spanning.specs.Contraction.{contracted, between, nothing_kept, and_kept, less_kept}
 use Rattle.spanning.specs.Costs.{cost, Priced}
 use Rattle.spanning.specs.Sets.{with_link, without_link}
 use Rattle.spanning.specs.Trees.{Ranked, prior, greedy, Tree}
-use Rattle.spanning.proofs.Greedy.{more, add_one, kept_in, prior_kept, prior_free, prior_cases, greedy_cases, greedy_in}
+use Rattle.spanning.proofs.Greedy.{more, add_one, prior_kept, prior_free, prior_cases, greedy_cases, greedy_in}
 use Rattle.spanning.proofs.Subsets.{same_test, or_left, or_right, or_cases, and_both, and_left, and_right, not_from, not_to, true_or, same_or, with_old, with_new, with_cases, without_in, without_old, without_apart, Within}
-use Rattle.spanning.proofs.Totals.{cost_total, cost_same, cost_without}
+use Rattle.spanning.proofs.Totals.{cost_same, cost_without}
 
 module _ (in_span : (ℕ → Bool) → ℕ → Bool) (c : Closure in_span) (n : ℕ) (kept free : ℕ → Bool) (before : ℕ → ℕ → Bool) (ranked : Ranked n kept free before) (alone : (e : ℕ) → T (kept e) → T (in_span (without_link kept e) e) → ⊥) where
   abbrev inᶜ : (ℕ → Bool) → ℕ → Bool

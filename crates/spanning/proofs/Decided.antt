@@ -1,13 +1,13 @@
 -- Whether points are joined is decided by computation, and graphs have the four facts.
-use Rattle.std.proofs.Common.{◌≡◌, ℕ, zero, suc, ◌<◌, ◌≤◌, Bool, true, false, ◌&&◌, ◌||◌, T, eqb, ltb, ◌⊎◌, sym, refl, ap, ◌∙◌, subst, inl, inr, arith, eqb→eq, ltb→lt, lt→ltb}
+use Rattle.std.proofs.Common.{◌≡◌, ℕ, zero, suc, ◌<◌, Bool, ◌&&◌, ◌||◌, T, eqb, ltb, sym, refl, subst, inl, inr, arith, eqb→eq, ltb→lt, lt→ltb}
 use native.Mathlib.Decide.{dec_lt}
 use lib.Dec.{eqb_refl}
 use Rattle.spanning.specs.Joined.{Graph, Joined, Spans}
 use Rattle.spanning.specs.Joined.Joined.{same, forth, back}
 use Rattle.spanning.specs.Closure.{are_joined, Closure, Finite}
-use Rattle.spanning.specs.Sets.{with_link, without_link}
-use Rattle.spanning.proofs.Subsets.{or_left, or_right, or_cases, and_both, and_left, and_right, with_old, with_new, with_cases, Within, same_or, true_or}
-use Rattle.spanning.proofs.Chains.{join, turn, spans_own, grown, wider, split, exchanged, Split}
+use Rattle.spanning.specs.Sets.{with_link}
+use Rattle.spanning.proofs.Subsets.{or_left, or_right, or_cases, and_both, and_left, and_right, with_old, with_new, Within, same_or, true_or}
+use Rattle.spanning.proofs.Chains.{join, spans_own, grown, wider, split, exchanged, Split}
 use Rattle.spanning.proofs.Chains.Split.{around, across, against}
 
 -- the links of S below m

@@ -1,10 +1,10 @@
 -- One link is changed: at most one other leaves the greedy tree, and at most one enters.
-use Rattle.std.proofs.Common.{◌≡◌, ℕ, Bool, true, false, not, ◌&&◌, ◌||◌, T, ◌⊎◌, sym, refl, ap, ◌∙◌, subst, inl, inr}
+use Rattle.std.proofs.Common.{◌≡◌, ℕ, Bool, ◌&&◌, T, sym, ◌∙◌, subst, inl, inr}
 use Rattle.spanning.specs.Closure.{Closure}
-use Rattle.spanning.specs.Sets.{with_link, without_link}
+use Rattle.spanning.specs.Sets.{with_link}
 use Rattle.spanning.specs.Trees.{Ranked, prior, greedy, NoWorse, AtMostOneLeaves}
 use Rattle.spanning.proofs.Greedy.{more, kept_in, prior_kept, prior_free, prior_cases, prior_prior, greedy_cases, greedy_in}
-use Rattle.spanning.proofs.Subsets.{or_left, or_right, or_cases, and_both, and_left, and_right, true_or, same_or, with_old, with_new, with_cases, Within}
+use Rattle.spanning.proofs.Subsets.{or_right, or_cases, and_both, and_right, true_or, same_or, with_old, with_new, with_cases, Within}
 
 module _ (in_span : (ℕ → Bool) → ℕ → Bool) (c : Closure in_span) (n e : ℕ) (kept free : ℕ → Bool) (before : ℕ → ℕ → Bool) (kept' free' : ℕ → Bool) (before' : ℕ → ℕ → Bool) (ranked : Ranked n kept free before) (ranked' : Ranked n kept' free' before') (better : NoWorse e kept free before kept' free' before') where
   abbrev G : ℕ → Bool

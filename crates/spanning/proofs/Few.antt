@@ -1,9 +1,9 @@
 -- Labels are the lowest points of their parts, and links without a ring are fewer than the points.
-use Rattle.std.proofs.Common.{◌≡◌, ℕ, zero, suc, ◌+◌, ◌<◌, ◌≤◌, min, max, Bool, true, false, cond, not, T, eqb, ◌⊎◌, sym, refl, ap, ◌∙◌, subst, inl, inr, arith, eqb→eq}
+use Rattle.std.proofs.Common.{◌≡◌, ℕ, zero, suc, ◌+◌, ◌<◌, ◌≤◌, min, max, Bool, true, false, cond, T, eqb, ◌⊎◌, sym, refl, ap, ◌∙◌, subst, inl, inr, arith, eqb→eq}
 use lib.Dec.{eqb_refl}
 use Rattle.spanning.specs.Closure.{relabelled, label_of}
-use Rattle.spanning.specs.Joined.{Graph, Joined, Spans, NoRing}
-use Rattle.spanning.specs.Sets.{with_link, without_link, count}
+use Rattle.spanning.specs.Joined.{Graph, NoRing}
+use Rattle.spanning.specs.Sets.{without_link, count}
 use Rattle.spanning.proofs.Chains.{wider}
 use Rattle.spanning.proofs.LabelsDecide.{under, under_old, under_less, taken, left, labels_tell}
 use Rattle.spanning.proofs.Labels.{moved, stays}

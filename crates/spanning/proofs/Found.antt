@@ -1,9 +1,9 @@
 -- Findings by one more cost.
-use Rattle.std.proofs.Common.{◌≡◌, ℕ, Bool, ◌||◌, T, ◌⊎◌, sym, refl, ap, ◌∙◌, subst, inl, inr}
+use Rattle.std.proofs.Common.{◌≡◌, ℕ, Bool, ◌||◌, T, sym, refl, subst, inl, inr}
 use Rattle.price.specs.Kind.{Operations, Laws, Compared}
 use Rattle.price.specs.Kind.Compared.{total, limit}
-use Rattle.spanning.specs.Costs.{cost, Priced}
-use Rattle.spanning.specs.Laws.{Given, Holding, Lacking, Findings}
+use Rattle.spanning.specs.Costs.{cost}
+use Rattle.spanning.specs.Laws.{Given, Findings}
 use Rattle.spanning.specs.Sets.{with_link, without_link}
 use Rattle.spanning.specs.Trees.{greedy, Tree}
 use Rattle.spanning.proofs.Greedy.{greedy_tree_lem}

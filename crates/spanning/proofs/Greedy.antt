@@ -1,10 +1,10 @@
 -- The greedy tree: it is a tree, it is shown, and no other is.
-use Rattle.std.proofs.Common.{◌≡◌, ℕ, zero, suc, ◌+◌, ◌<◌, ◌≤◌, Bool, true, false, not, ◌&&◌, ◌||◌, T, eqb, ltb, ◌⊎◌, sym, refl, ap, ◌∙◌, subst, inl, inr, arith, eqb→eq, ltb→lt, lt→ltb}
+use Rattle.std.proofs.Common.{◌≡◌, ℕ, zero, suc, ◌<◌, ◌≤◌, Bool, not, ◌&&◌, ◌||◌, T, eqb, ltb, ◌⊎◌, sym, ap, ◌∙◌, subst, inl, inr, arith, eqb→eq, ltb→lt, lt→ltb}
 use native.Mathlib.Decide.{dec_lt}
 use lib.Dec.{eqb_refl}
 use Rattle.spanning.specs.Closure.{Closure}
 use Rattle.spanning.specs.Sets.{with_link, without_link}
-use Rattle.spanning.specs.Trees.{Ranked, Independent, prior, greedy, Tree, OnPath, Shown}
+use Rattle.spanning.specs.Trees.{Ranked, prior, greedy, Tree, Shown}
 use Rattle.spanning.specs.Sets.{count}
 use Rattle.spanning.proofs.Search.{find, count_less, count_bound}
 use Rattle.spanning.proofs.Subsets.{or_left, or_right, or_cases, and_both, and_left, and_right, not_from, not_to, true_or, same_or, with_old, with_new, with_cases, without_in, without_old, without_apart, Within}

@@ -1,9 +1,9 @@
 -- Labels tell which points are joined, also after one more link.
-use Rattle.std.proofs.Common.{◌≡◌, ℕ, ◌<◌, ◌≤◌, min, max, Bool, true, false, cond, T, eqb, ◌⊎◌, sym, refl, ap, ◌∙◌, subst, inl, inr, arith}
+use Rattle.std.proofs.Common.{◌≡◌, ℕ, min, max, Bool, true, false, cond, eqb, sym, refl, ap, ◌∙◌, subst, inl, inr, arith}
 use native.Mathlib.Decide.{dec_lt}
 use Rattle.spanning.specs.Closure.{relabelled}
 use Rattle.spanning.specs.Joined.{Graph, Joined}
-use Rattle.spanning.specs.Joined.Joined.{same, forth, back}
+use Rattle.spanning.specs.Joined.Joined.{forth, back}
 use Rattle.spanning.specs.Sets.{with_link}
 use Rattle.spanning.proofs.Chains.{join, turn, wider, split, Split}
 use Rattle.spanning.proofs.Chains.Split.{around, across, against}

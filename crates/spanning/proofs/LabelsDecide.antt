@@ -1,13 +1,13 @@
 -- Whether points are joined is decided by the labels of their parts, and graphs have the four facts.
-use Rattle.std.proofs.Common.{◌≡◌, ℕ, zero, suc, ◌<◌, ◌≤◌, min, max, Bool, true, false, cond, ◌&&◌, T, eqb, ltb, ◌⊎◌, sym, refl, ap, ◌∙◌, subst, inl, inr, arith, eqb→eq, ltb→lt, lt→ltb}
+use Rattle.std.proofs.Common.{◌≡◌, ℕ, zero, suc, ◌<◌, min, max, Bool, true, false, cond, ◌&&◌, T, eqb, ltb, sym, refl, ap, ◌∙◌, subst, inl, inr, arith, eqb→eq, ltb→lt, lt→ltb}
 use mathlib.Core.Path.{fun_ext}
 use native.Mathlib.Decide.{dec_lt}
 use lib.Dec.{eqb_refl}
 use Rattle.spanning.specs.Joined.{Graph, Joined, Spans}
 use Rattle.spanning.specs.Joined.Joined.{same, forth, back}
 use Rattle.spanning.specs.Closure.{relabelled, label_of, are_joined, share_label, Closure, Finite}
-use Rattle.spanning.specs.Sets.{with_link, without_link}
-use Rattle.spanning.proofs.Subsets.{or_left, or_right, or_cases, and_both, and_left, and_right, with_old, with_new, with_cases, Within, same_or, same_test, true_or}
+use Rattle.spanning.specs.Sets.{with_link}
+use Rattle.spanning.proofs.Subsets.{and_both, and_left, and_right, with_old, with_new, with_cases, Within, same_or, same_test, true_or}
 use Rattle.spanning.proofs.Chains.{spans_own, grown, wider, exchanged}
 use Rattle.spanning.proofs.Decided as decided
 use Rattle.spanning.proofs.Labels.{Tells, tells_more}

@@ -1,13 +1,13 @@
 -- Lawful trees are the trees of the closure, where all points can be joined; and else there are none.
-use Rattle.std.proofs.Common.{◌≡◌, ℕ, ◌<◌, Bool, ◌||◌, T, ◌⊎◌, sym, refl, ap, ◌∙◌, subst, inl, inr}
-use Rattle.spanning.specs.Closure.{share_label, Closure, Finite}
-use Rattle.spanning.specs.Joined.{Graph, Joined, Spans, NoRing}
+use Rattle.std.proofs.Common.{ℕ, Bool, ◌||◌, T}
+use Rattle.spanning.specs.Closure.{share_label}
+use Rattle.spanning.specs.Joined.{Graph, Spans, NoRing}
 use Rattle.spanning.specs.Lawful.{LawfulTree, OnPoints, AllJoined}
 use Rattle.spanning.specs.Sets.{without_link}
 use Rattle.spanning.specs.Trees.{Tree}
-use Rattle.spanning.proofs.Chains.{join, turn, grown, wider, spans_own}
+use Rattle.spanning.proofs.Chains.{join, turn, grown, wider}
 use Rattle.spanning.proofs.LabelsDecide.{joined_is, is_joined}
-use Rattle.spanning.proofs.Subsets.{without_in, without_old, without_apart, Within}
+use Rattle.spanning.proofs.Subsets.{without_in, without_old, without_apart}
 
 module _ (g : Graph) (points n : ℕ) (kept free : ℕ → Bool) (before : ℕ → ℕ → Bool) (on : OnPoints g points n kept free) where
   -- which links a set spans

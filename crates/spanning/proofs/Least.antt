@@ -1,6 +1,6 @@
 -- Every tree costs at least as much as the greedy tree.
-use Rattle.std.proofs.Common.{◌≡◌, ℕ, zero, suc, ◌+◌, ◌<◌, ◌≤◌, Bool, true, false, not, ◌&&◌, ◌||◌, T, ◌⊎◌, sym, refl, ap, ◌∙◌, subst, inl, inr, arith}
-use Rattle.price.specs.Kind.{Operations, TotalOf, Compared, Laws}
+use Rattle.std.proofs.Common.{◌≡◌, ℕ, zero, suc, ◌<◌, ◌≤◌, Bool, not, ◌&&◌, ◌||◌, T, sym, ap, ◌∙◌, subst, inl, inr, arith}
+use Rattle.price.specs.Kind.{Operations, Compared, Laws}
 use Rattle.price.specs.Kind.TotalOf.{one}
 use Rattle.price.specs.Kind.Compared.{total}
 use Rattle.spanning.specs.Closure.{Closure}

@@ -1,5 +1,5 @@
 -- The roots of a union-find tell which points are joined.
-use Rattle.std.proofs.Common.{◌≡◌, ℕ, ◌<◌, ◌≤◌, min, max, Bool, false, List, length, sym, refl, ap, ◌∙◌, subst, arith}
+use Rattle.std.proofs.Common.{◌≡◌, ℕ, ◌<◌, min, max, Bool, false, List, length, sym, refl, ap, ◌∙◌, subst, arith}
 use Rattle.spanning.specs.Joined.{Graph, Joined}
 use Rattle.spanning.specs.Joined.Joined.{same, forth, back}
 use Rattle.spanning.specs.Roots.{root_of, under, Represents}

@@ -1,5 +1,5 @@
 -- Searching and counting below a number.
-use Rattle.std.proofs.Common.{◌≡◌, ℕ, zero, suc, ◌+◌, ◌<◌, ◌≤◌, Bool, true, false, cond, T, ◌⊎◌, sym, refl, ap, ◌∙◌, subst, inl, inr, arith}
+use Rattle.std.proofs.Common.{◌≡◌, ℕ, zero, suc, ◌<◌, ◌≤◌, Bool, true, false, cond, T, ◌⊎◌, sym, subst, inl, inr, arith}
 use Rattle.spanning.specs.Sets.{count, without_link}
 use Rattle.spanning.proofs.Subsets.{true_or, same_or, without_in, without_old, without_apart}
 

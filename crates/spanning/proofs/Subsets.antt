@@ -1,5 +1,5 @@
 -- Membership in sets made of others.
-use Rattle.std.proofs.Common.{◌≡◌, ℕ, ◌<◌, ◌≤◌, Bool, true, false, not, ◌&&◌, ◌||◌, T, eqb, ◌⊎◌, sym, refl, ap, ◌∙◌, subst, inl, inr, arith, eqb→eq}
+use Rattle.std.proofs.Common.{◌≡◌, ℕ, Bool, true, false, not, ◌&&◌, ◌||◌, T, eqb, ◌⊎◌, refl, subst, inl, inr, eqb→eq}
 use lib.Dec.{eqb_refl}
 use Rattle.spanning.specs.Sets.{with_link, without_link}
 

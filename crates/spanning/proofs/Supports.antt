@@ -1,11 +1,11 @@
 -- The least tree that holds a link, and the least that lacks one.
-use Rattle.std.proofs.Common.{◌≡◌, ℕ, zero, suc, ◌<◌, ◌≤◌, Bool, true, false, not, ◌&&◌, ◌||◌, T, ltb, ◌⊎◌, sym, refl, ap, ◌∙◌, subst, inl, inr, arith, ltb→lt, lt→ltb}
+use Rattle.std.proofs.Common.{◌≡◌, ℕ, zero, suc, ◌<◌, ◌≤◌, Bool, not, ◌&&◌, ◌||◌, T, ltb, ◌⊎◌, sym, refl, subst, inl, inr, arith, ltb→lt, lt→ltb}
 use native.Mathlib.Decide.{dec_lt}
 use Rattle.spanning.specs.Closure.{Closure}
 use Rattle.spanning.specs.Sets.{with_link, without_link}
-use Rattle.spanning.specs.Trees.{Ranked, Independent, prior, greedy, Tree, OnPath, NoWorse, LastOnPath, Rejoins, FirstToRejoin}
+use Rattle.spanning.specs.Trees.{Ranked, prior, greedy, Tree, OnPath, NoWorse, LastOnPath, Rejoins, FirstToRejoin}
 use Rattle.spanning.proofs.Exchange.{one_leaves_lem, enters}
-use Rattle.spanning.proofs.Greedy.{more, add_one, both_without, kept_in, prior_kept, prior_free, prior_cases, greedy_cases, greedy_in, greedy_tree_lem, greedy_independent, greedy_spans}
+use Rattle.spanning.proofs.Greedy.{more, add_one, both_without, kept_in, prior_kept, prior_free, prior_cases, greedy_cases, greedy_in, greedy_tree_lem}
 use Rattle.spanning.proofs.Least.{swapped_tree}
 use Rattle.spanning.proofs.Subsets.{same_test, or_left, or_right, or_cases, and_both, and_left, and_right, not_from, not_to, true_or, same_or, with_old, with_new, with_cases, without_in, without_old, without_apart, Within}
 

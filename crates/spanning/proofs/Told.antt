@@ -1,8 +1,7 @@
 -- What supports tell of costs.
-use Rattle.std.proofs.Common.{◌≡◌, ℕ, Bool, ◌||◌, T, ◌⊎◌, sym, refl, ap, ◌∙◌, subst, inl, inr}
+use Rattle.std.proofs.Common.{◌≡◌, ℕ, Bool, ◌||◌, T, sym, subst, inl, inr}
 use Rattle.price.specs.Kind.{Operations, Laws}
-use Rattle.spanning.specs.Costs.{Priced}
-use Rattle.spanning.specs.Laws.{greedy_tree, tree_cost, Given, Holding, Lacking}
+use Rattle.spanning.specs.Laws.{tree_cost, Given, Holding, Lacking}
 use Rattle.spanning.specs.Sets.{with_link, without_link}
 use Rattle.spanning.specs.Trees.{greedy}
 use Rattle.spanning.proofs.Least.{least}

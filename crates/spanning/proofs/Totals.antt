@@ -1,11 +1,10 @@
 -- Costs of sets that differ in one link, from the laws of a price kind.
-use Rattle.std.proofs.Common.{◌≡◌, ℕ, zero, suc, ◌+◌, ◌<◌, ◌≤◌, Bool, true, false, cond, ◌||◌, T, ◌⊎◌, sym, refl, ap, ◌∙◌, subst, inl, inr, arith}
-use Rattle.price.specs.Kind.{Operations, TotalOf, Compared, Laws}
+use Rattle.std.proofs.Common.{◌≡◌, ℕ, zero, suc, ◌+◌, ◌<◌, Bool, true, false, cond, T, sym, refl, ap, ◌∙◌, subst, inl, inr, arith}
+use Rattle.price.specs.Kind.{Operations, TotalOf, Laws}
 use Rattle.price.specs.Kind.TotalOf.{none, one, both}
-use Rattle.price.specs.Kind.Compared.{total, limit}
 use Rattle.spanning.specs.Costs.{cost, Priced}
-use Rattle.spanning.specs.Sets.{with_link, without_link, count}
-use Rattle.spanning.proofs.Subsets.{same_test, true_or, same_or, with_old, with_new, with_cases, without_in, without_old, without_apart, Within}
+use Rattle.spanning.specs.Sets.{without_link, count}
+use Rattle.spanning.proofs.Subsets.{same_test, same_or, without_in, without_old, without_apart, Within}
 
 module _ {A : Type 0} (o : Operations A) (laws : Laws o) where
   plus_zero : (m : ℕ) (x : A) → TotalOf o m x → o.plus x o.zero ≡ x

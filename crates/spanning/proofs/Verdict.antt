@@ -2,7 +2,7 @@
 use Rattle.std.proofs.Common.{◌≡◌, ℕ, Bool, ◌||◌, T, sym, ap, subst}
 use Rattle.price.specs.Kind.{Operations, Laws, Compared}
 use Rattle.price.specs.Kind.Compared.{total, limit}
-use Rattle.spanning.specs.Closure.{share_label, are_joined, Closure}
+use Rattle.spanning.specs.Closure.{share_label, Closure}
 use Rattle.spanning.specs.Costs.{cost, Priced}
 use Rattle.spanning.specs.Joined.{Graph, NoRing}
 use Rattle.spanning.specs.Lawful.{LawfulTree, OnPoints, AllJoined}

@@ -1,6 +1,6 @@
 -- The four facts about spanning from which the rest follows: a closure with exchange, tested by computation.
 use Rattle.std.specs.Prelude.{◌≡◌, ℕ, zero, suc, ◌≤◌, min, max, Bool, cond, ◌&&◌, ◌||◌, T, ◌⊎◌, ◌==◌}
-use Rattle.spanning.specs.Joined.{Graph, Joined}
+use Rattle.spanning.specs.Joined.{Graph}
 use Rattle.spanning.specs.Sets.{with_link}
 
 -- whether links of S below m join two points: either without the last of these links, or once along it

@@ -1,5 +1,5 @@
 -- The cost of a set of links: a carried total with the prices of its links added, in the order of their numbers.
-use Rattle.std.specs.Prelude.{ℕ, zero, suc, ◌<◌, Bool, cond, T}
+use Rattle.std.specs.Prelude.{ℕ, zero, suc, Bool, cond, T}
 use Rattle.price.specs.Kind.{Operations, TotalOf}
 
 abbrev pub cost : {A : Type 0} → Operations A → A → (ℕ → A) → ℕ → (ℕ → Bool) → A

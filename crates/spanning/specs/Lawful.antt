@@ -1,5 +1,5 @@
 -- Lawful trees of a graph with marks: what a spanning tree is, in the words of points and links.
-use Rattle.std.specs.Prelude.{◌≡◌, ℕ, ◌<◌, Bool, ◌||◌, T}
+use Rattle.std.specs.Prelude.{ℕ, ◌<◌, Bool, ◌||◌, T}
 use Rattle.spanning.specs.Closure.{Finite}
 use Rattle.spanning.specs.Joined.{Graph, Joined, NoRing}
 

@@ -1,5 +1,5 @@
 -- A forest of parents: each point's parent is no higher than the point, and a root is its own parent.
-use Rattle.std.specs.Prelude.{◌≡◌, ℕ, zero, suc, ◌<◌, ◌≤◌, Bool, cond, T, List, length, ◌==◌, slice_index}
+use Rattle.std.specs.Prelude.{◌≡◌, ℕ, zero, suc, ◌<◌, ◌≤◌, Bool, cond, List, length, ◌==◌, slice_index}
 use Rattle.spanning.specs.Joined.{Graph, Joined}
 
 abbrev pub Forest : List ℕ → Type 0

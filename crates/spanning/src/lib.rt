@@ -1,5 +1,7 @@
 //! The theory of least spanning trees, proved once: for any graph, any strict order of links that never puts a dearer link first,
 //! and any price kind with the laws. Each function's contract is a theorem.
+#![tactic(auto)]
+
 ghost use Rattle.spanning.specs.Laws.{JoinedIsDecided, LabelsDecide, FewerThanPoints, GraphsClose, OneTreeShown, GreedyIsLeast, OneExchange, SupportsTell, VerdictsTell, ContractionKeeps, FindingsTell};
 
 use price::PriceKind;
@@ -43,7 +45,7 @@ pub fn one_tree_shown() -> u8
 
 /// Every tree costs at least as much as the greedy tree.
 pub fn greedy_is_least<K: PriceKind>() -> u8
-    ensures { GreedyIsLeast operations }
+    ensures { GreedyIsLeast K.operations }
 {
     0
 }
@@ -57,7 +59,7 @@ pub fn one_exchange() -> u8
 
 /// The least tree that holds a link, and the least that lacks one, by the link's support.
 pub fn supports_tell<K: PriceKind>() -> u8
-    ensures { SupportsTell operations }
+    ensures { SupportsTell K.operations }
 {
     0
 }
@@ -65,21 +67,21 @@ pub fn supports_tell<K: PriceKind>() -> u8
 /// Lawful trees exist exactly if the kept links close no ring and the links that are not barred join all points; the greedy tree is
 /// then one, and it is within a budget exactly if some lawful tree is.
 pub fn verdicts_tell<K: PriceKind>() -> u8
-    ensures { VerdictsTell operations }
+    ensures { VerdictsTell K.operations }
 {
     0
 }
 
 /// With the kept links taken for granted, trees, the greedy tree and costs are those below without them.
 pub fn contraction_keeps<K: PriceKind>() -> u8
-    ensures { ContractionKeeps operations }
+    ensures { ContractionKeeps K.operations }
 {
     0
 }
 
 /// Where the tree shown is within the budget, the cost of one more tree tells whether a link is out, forced or neither.
 pub fn findings_tell<K: PriceKind>() -> u8
-    ensures { FindingsTell operations }
+    ensures { FindingsTell K.operations }
 {
     0
 }

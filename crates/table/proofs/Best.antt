@@ -1,5 +1,5 @@
 -- The number that every other which passes a test stands before, by search.
-use Rattle.std.proofs.Common.{◌≡◌, ℕ, zero, suc, ◌<◌, ◌≤◌, Bool, true, false, not, ◌&&◌, ◌||◌, T, eqb, ◌⊎◌, Some, None, Option, sym, refl, ap, ◌∙◌, subst, inl, inr, arith, eqb→eq}
+use Rattle.std.proofs.Common.{◌≡◌, ℕ, zero, suc, ◌<◌, Bool, not, ◌&&◌, ◌||◌, T, eqb, ◌⊎◌, Some, None, Option, sym, refl, ◌∙◌, subst, inl, inr, arith, eqb→eq}
 use lib.Dec.{eqb_refl}
 use Rattle.spanning.proofs.Subsets.{and_both, and_left, and_right, or_left, or_right, or_cases, not_from, not_to, true_or, same_or}
 use Rattle.table.specs.Findings.{every}

@@ -13,9 +13,9 @@ use Rattle.spanning.proofs.Exchange as exchange
 use Rattle.spanning.proofs.Subsets.{or_left, or_right, or_cases, and_both, and_left, and_right, true_or, same_or, same_test}
 use Rattle.table.specs.declared.links.Link.{Link}
 use Rattle.table.specs.Laws.{DifferAt, Exchanges}
-use Rattle.table.specs.Ranks.{ends, link_count, kept, free, usable, price_of, price_in, before, role_in, is_kept, is_free, first_end, second_end}
+use Rattle.table.specs.Ranks.{ends, link_count, kept, free, price_of, price_in, before, role_in, is_kept, is_free, first_end, second_end}
 use Rattle.table.specs.Table.{Table, Lawful}
-use Rattle.table.specs.Trees.{LawfulTreeOf, TreeShown, is_spanned, shown}
+use Rattle.table.specs.Trees.{LawfulTreeOf, TreeShown, shown}
 use Rattle.table.proofs.Graphs as graphs
 use Rattle.table.proofs.Order.{Why, why, because, compared}
 use Rattle.table.proofs.Order.Why.{lower, tied}

@@ -1,22 +1,22 @@
 -- Findings and supports by computation are those of the definitions.
-use Rattle.std.proofs.Common.{◌≡◌, ℕ, ◌<◌, Bool, true, false, cond, not, ◌&&◌, ◌||◌, T, eqb, ◌⊎◌, Some, None, Option, sym, refl, ap, ◌∙◌, subst, inl, inr}
+use Rattle.std.proofs.Common.{◌≡◌, ℕ, Bool, true, false, cond, not, T, ◌⊎◌, Some, None, Option, sym, refl, ◌∙◌, subst, inl, inr}
 use Rattle.price.specs.Kind.{Operations, Laws}
-use Rattle.spanning.specs.Joined.{Spans, NoRing}
+use Rattle.spanning.specs.Joined.{NoRing}
 use Rattle.spanning.specs.Lawful.{AllJoined}
 use Rattle.spanning.specs.Laws as laws-of-trees
-use Rattle.spanning.specs.Sets.{with_link, without_link}
-use Rattle.spanning.specs.Trees.{LastOnPath, FirstToRejoin, Rejoins, OnPath}
+use Rattle.spanning.specs.Sets.{without_link}
+use Rattle.spanning.specs.Trees.{LastOnPath, FirstToRejoin, Rejoins}
 use Rattle.spanning.proofs.Found as findings-of-trees
 use Rattle.spanning.proofs.Told as told
-use Rattle.spanning.proofs.Subsets.{and_both, and_left, and_right, not_from, not_to, true_or, same_or, or_cases, with_new, with_cases, without_apart}
+use Rattle.spanning.proofs.Subsets.{and_both, and_left, and_right, not_from, not_to, true_or, or_cases, with_new, with_cases, without_apart}
 use Rattle.table.specs.declared.verdicts.Finding.{Finding}
 use Rattle.table.specs.declared.verdicts.Finding.TheVariants as finding
 use Rattle.table.specs.declared.verdicts.Verdict.TheVariants as verdict
 use Rattle.table.specs.Findings.{FindingIs, LooseOnPath, LooseRejoins, LastOf, FirstOf, SupportIs, is_on_path, does_rejoin, last_on_path, first_to_rejoin, support_of, exchanged, open_or, finding_of}
 use Rattle.table.specs.Laws.{LeastOf, Finds, Supports}
-use Rattle.table.specs.Ranks.{ends, link_count, kept, free, usable, before, price_of}
+use Rattle.table.specs.Ranks.{ends, link_count, kept, free, before, price_of}
 use Rattle.table.specs.Table.{Table, Lawful}
-use Rattle.table.specs.Trees.{LawfulTreeOf, cost_of, OnPathOf, is_spanned, shown}
+use Rattle.table.specs.Trees.{LawfulTreeOf, cost_of, is_spanned, shown}
 use Rattle.table.specs.Verdicts.{Fitting, LeastCost, VerdictIs, verdict_of, least_cost}
 use Rattle.table.proofs.Best.{Ends, search_end}
 use Rattle.table.proofs.Best.Ends.{last, empty}

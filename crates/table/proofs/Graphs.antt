@@ -1,23 +1,23 @@
 -- A lawful table is a graph with marks, ranks and prices to which the theory of trees applies.
-use Rattle.std.proofs.Common.{◌≡◌, ℕ, zero, suc, ◌<◌, ◌≤◌, Bool, ◌&&◌, ◌||◌, T, ltb, ◌⊎◌, length, Some, None, Option, sym, refl, ap, ◌∙◌, subst, inl, inr, arith, ltb→lt, lt→ltb}
+use Rattle.std.proofs.Common.{◌≡◌, ℕ, ◌<◌, Bool, ◌||◌, T, Some, None, Option, sym, refl, ap, ◌∙◌, arith}
 use Rattle.std.proofs.lemmas.Option.{slice_get_past}
 use Rattle.std.specs.List.{slice_get}
 use Rattle.price.specs.Kind.{Operations, Laws}
 use Rattle.spanning.specs.Closure.{Closure, Finite}
 use Rattle.spanning.specs.Costs.{Priced}
-use Rattle.spanning.specs.Joined.{Joined, Spans, NoRing}
+use Rattle.spanning.specs.Joined.{Spans, NoRing}
 use Rattle.spanning.specs.Laws.{Given}
 use Rattle.spanning.specs.Lawful.{OnPoints, AllJoined}
-use Rattle.spanning.specs.Sets.{with_link, without_link}
+use Rattle.spanning.specs.Sets.{without_link}
 use Rattle.spanning.specs.Trees.{Ranked, Tree, greedy}
 use Rattle.spanning.proofs.LabelsDecide.{joined_is, is_joined, graph_closure}
 use Rattle.spanning.proofs.LawfulTrees as lawful-trees
 use Rattle.spanning.proofs.Verdict as trees
 use Rattle.spanning.proofs.Verdict.{VerdictsByLabels}
 use Rattle.table.specs.declared.links.Link.{Link}
-use Rattle.table.specs.Ranks.{ends, link_count, kept, free, usable, price_of, price_in, before, role_in, is_kept, is_free, first_end, second_end}
+use Rattle.table.specs.Ranks.{ends, link_count, kept, free, price_of, price_in, before, role_in, is_kept, is_free, first_end, second_end}
 use Rattle.table.specs.Table.{Table, Lawful}
-use Rattle.table.specs.Trees.{LawfulTreeOf, cost_of, is_spanned}
+use Rattle.table.specs.Trees.{LawfulTreeOf, is_spanned}
 use Rattle.table.proofs.Order.{ranks_order}
 
 module _ {K : Type 0} (o : Operations K) (laws : Laws o) (t : Table K) (lawful : Lawful o t) where

@@ -1,5 +1,5 @@
 -- The verdict computed is the one that is true, and the only one.
-use Rattle.std.proofs.Common.{◌≡◌, ℕ, zero, suc, ◌<◌, ◌≤◌, Bool, true, false, cond, not, ◌&&◌, ◌||◌, T, ltb, ◌⊎◌, Some, None, Option, sym, refl, ap, ◌∙◌, subst, inl, inr, arith, ltb→lt, lt→ltb}
+use Rattle.std.proofs.Common.{◌≡◌, ℕ, zero, suc, ◌<◌, Bool, true, false, cond, not, ◌&&◌, T, ltb, Some, None, Option, sym, refl, ap, ◌∙◌, subst, inl, inr, arith, ltb→lt, lt→ltb}
 use native.Mathlib.Decide.{dec_lt}
 use Rattle.price.specs.Kind.{Operations, Laws}
 use Rattle.spanning.specs.Closure.{share_label}
@@ -13,10 +13,10 @@ use Rattle.spanning.proofs.Subsets.{and_both, and_left, and_right, not_from, not
 use Rattle.table.specs.declared.verdicts.Verdict.{Verdict}
 use Rattle.table.specs.declared.verdicts.Verdict.TheVariants as verdict
 use Rattle.table.specs.Laws.{Judges}
-use Rattle.table.specs.Ranks.{ends, link_count, kept, free, usable, before}
+use Rattle.table.specs.Ranks.{ends, link_count, kept, free, usable}
 use Rattle.table.specs.Table.{Table, Lawful}
-use Rattle.table.specs.Trees.{LawfulTreeOf, cost_of, TreeShown, is_spanned, shown}
-use Rattle.table.specs.Verdicts.{kept_under, RingAt, CutAt, LeastCost, NoTree, Fitting, VerdictIs, or_else, lowest, ring_link, cut_point, least_cost, judged, verdict_of}
+use Rattle.table.specs.Trees.{is_spanned, shown}
+use Rattle.table.specs.Verdicts.{kept_under, RingAt, CutAt, LeastCost, VerdictIs, or_else, lowest, ring_link, cut_point, least_cost, judged, verdict_of}
 use Rattle.table.proofs.Graphs as graphs
 use Rattle.table.proofs.Order.{kept_below_lem}
 use Rattle.table.proofs.Shown.{is_shown_lem, sole, same_cost}

@@ -1,23 +1,22 @@
 -- The narrowing of a lawful table whose kept links close no ring is lawful; its ranks are those below.
-use Rattle.std.proofs.Common.{◌≡◌, ℕ, zero, suc, ◌+◌, ◌<◌, ◌≤◌, Bool, true, false, not, ◌&&◌, ◌||◌, T, eqb, ltb, ◌⊎◌, length, Some, None, Option, sym, refl, ap, ◌∙◌, subst, inl, inr, arith, eqb→eq, ltb→lt, lt→ltb}
+use Rattle.std.proofs.Common.{◌≡◌, ℕ, ◌+◌, ◌<◌, not, ◌&&◌, ◌||◌, T, ltb, Some, None, Option, sym, ap, ◌∙◌, subst, inl, inr, arith, ltb→lt, lt→ltb}
 use native.Mathlib.Decide.{dec_lt}
-use lib.Dec.{eqb_refl}
 use Rattle.std.proofs.lemmas.Option.{slice_get_past}
 use Rattle.std.specs.List.{slice_get}
-use Rattle.price.specs.Kind.{Operations, Laws, TotalOf}
-use Rattle.spanning.specs.Joined.{Joined, NoRing}
+use Rattle.price.specs.Kind.{Operations, Laws}
+use Rattle.spanning.specs.Joined.{NoRing}
 use Rattle.spanning.specs.Sets.{count}
 use Rattle.spanning.proofs.Few.{parts_and_links}
-use Rattle.spanning.proofs.Search.{count_bound, count_some}
-use Rattle.spanning.proofs.Subsets.{or_left, or_right, and_both, and_left, and_right, not_from, not_to, true_or, same_or, same_test}
+use Rattle.spanning.proofs.Search.{count_bound}
+use Rattle.spanning.proofs.Subsets.{or_left, or_right, and_left, and_right, not_to, same_or, same_test}
 use Rattle.spanning.proofs.Totals.{cost_count}
 use Rattle.table.specs.declared.links.Link.{Link}
-use Rattle.table.specs.Narrowed.{lowest_of, is_lowest, part_of, between, narrowed_link, numbers, narrowed, number_below}
+use Rattle.table.specs.Narrowed.{is_lowest, part_of, between, narrowed_link, narrowed, number_below}
 use Rattle.table.specs.Ranks.{ends, link_count, kept, free, usable, price_of, price_in, before, role_in, is_kept, is_free}
 use Rattle.table.specs.Table.{Table, Lawful, LawfulLink}
-use Rattle.table.specs.Trees.{cost_of, is_spanned}
+use Rattle.table.specs.Trees.{is_spanned}
 use Rattle.table.proofs.Graphs as graphs
-use Rattle.table.proofs.Numbers.{rising, Stands, is_true, is_false}
+use Rattle.table.proofs.Numbers.{rising}
 use Rattle.table.proofs.Parts as parts
 
 module _ {K : Type 0} (o : Operations K) (laws : Laws o) (t : Table K) (lawful : Lawful o t) where

@@ -1,14 +1,13 @@
 -- Verdict, tree shown, findings and supports of a narrowing are those below.
-use Rattle.std.proofs.Common.{◌≡◌, ℕ, zero, suc, ◌+◌, ◌<◌, ◌≤◌, Bool, true, false, cond, not, ◌&&◌, ◌||◌, T, eqb, ◌⊎◌, Some, None, Option, sym, refl, ap, ◌∙◌, subst, inl, inr, arith}
+use Rattle.std.proofs.Common.{◌≡◌, ℕ, ◌<◌, Bool, not, ◌&&◌, T, Some, None, Option, sym, ap, ◌∙◌, subst, inl, inr, arith}
 use mathlib.Core.Path.{fun_ext}
 use native.Mathlib.Decide.{dec_lt}
 use Rattle.price.specs.Kind.{Operations, Laws}
 use Rattle.spanning.specs.Joined.{Joined, Spans, NoRing}
-use Rattle.spanning.specs.Lawful.{AllJoined}
 use Rattle.spanning.specs.Sets.{without_link, count}
 use Rattle.spanning.proofs.Chains.{wider, grown, spans_own}
 use Rattle.spanning.proofs.Few.{label_low}
-use Rattle.spanning.proofs.Subsets.{or_left, or_right, or_cases, and_both, and_left, and_right, not_from, not_to, true_or, same_or, same_test, without_in, without_old, without_apart}
+use Rattle.spanning.proofs.Subsets.{or_left, or_right, or_cases, and_both, and_left, not_from, true_or, same_test, without_in}
 use Rattle.table.specs.declared.verdicts.Finding.{Finding}
 use Rattle.table.specs.declared.verdicts.Finding.TheVariants as finding
 use Rattle.table.specs.declared.verdicts.Verdict.{Verdict}
@@ -16,10 +15,10 @@ use Rattle.table.specs.declared.verdicts.Verdict.TheVariants as verdict
 use Rattle.table.specs.Findings.{FindingIs, LooseOnPath, LooseRejoins, LastOf, FirstOf, SupportIs, support_of, finding_of}
 use Rattle.table.specs.Narrowed.{lowest_of, is_lowest, part_of, between, narrowed, number_below, point_below, lowered, lifted}
 use Rattle.table.specs.Narrows.{support_below, verdict_below, Narrows}
-use Rattle.table.specs.Ranks.{ends, link_count, kept, free, usable, price_of, before}
+use Rattle.table.specs.Ranks.{ends, link_count, kept, free, usable, before}
 use Rattle.table.specs.Table.{Table, Lawful}
 use Rattle.table.specs.Trees.{LawfulTreeOf, cost_of, OnPathOf, TreeShown, is_spanned, shown}
-use Rattle.table.specs.Verdicts.{RingAt, CutAt, LeastCost, NoTree, Fitting, VerdictIs, verdict_of, least_cost}
+use Rattle.table.specs.Verdicts.{CutAt, LeastCost, Fitting, VerdictIs, verdict_of}
 use Rattle.table.proofs.Finds as finds
 use Rattle.table.proofs.Graphs as graphs
 use Rattle.table.proofs.Judged.{judged_true, judged_only}

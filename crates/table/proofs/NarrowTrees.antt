@@ -1,5 +1,5 @@
 -- The lawful trees of a narrowing are those below without the kept links, and cost the same.
-use Rattle.std.proofs.Common.{◌≡◌, ℕ, zero, suc, ◌+◌, ◌<◌, ◌≤◌, Bool, true, false, cond, not, ◌&&◌, ◌||◌, T, eqb, ◌⊎◌, get_or, sym, refl, ap, ◌∙◌, subst, inl, inr, arith}
+use Rattle.std.proofs.Common.{◌≡◌, ℕ, zero, suc, ◌<◌, ◌≤◌, Bool, cond, not, ◌&&◌, ◌||◌, T, sym, refl, ap, ◌∙◌, subst, inl, inr, arith}
 use native.Mathlib.Decide.{dec_lt}
 use Rattle.std.proofs.lemmas.List.{get_or_past}
 use Rattle.price.specs.Kind.{Operations, Laws}
@@ -7,18 +7,18 @@ use Rattle.spanning.specs.Contraction as contraction
 use Rattle.spanning.specs.Costs.{cost}
 use Rattle.spanning.specs.Joined.{Joined, Spans, NoRing}
 use Rattle.spanning.specs.Lawful.{AllJoined}
-use Rattle.spanning.specs.Sets.{with_link, without_link, count}
+use Rattle.spanning.specs.Sets.{without_link, count}
 use Rattle.spanning.specs.Trees.{Tree}
 use Rattle.spanning.proofs.Chains.{wider}
 use Rattle.spanning.proofs.Contracted as contracted
-use Rattle.spanning.proofs.Subsets.{or_left, or_right, or_cases, and_both, and_left, and_right, not_from, not_to, true_or, same_or, same_test, without_in, without_old, without_apart}
-use Rattle.table.specs.Narrowed.{part_of, between, numbers_of, numbers, narrowed, number_below, point_below, lowered, lifted}
-use Rattle.table.specs.Ranks.{ends, link_count, kept, free, usable, price_of, before}
+use Rattle.spanning.proofs.Subsets.{or_left, or_right, or_cases, and_both, and_left, and_right, not_from, true_or, without_in, without_old, without_apart}
+use Rattle.table.specs.Narrowed.{part_of, between, numbers, narrowed, number_below, point_below, lowered, lifted}
+use Rattle.table.specs.Ranks.{ends, link_count, kept, free, price_of, before}
 use Rattle.table.specs.Table.{Table, Lawful}
 use Rattle.table.specs.Trees.{LawfulTreeOf, cost_of, is_spanned}
 use Rattle.table.proofs.Graphs as graphs
 use Rattle.table.proofs.Narrow as narrow
-use Rattle.table.proofs.Numbers.{length_numbers, Stands, at_place, is_true, is_false}
+use Rattle.table.proofs.Numbers.{length_numbers, is_true, is_false}
 use Rattle.table.proofs.Order.{free_below_lem, kept_below_lem}
 use Rattle.table.proofs.Parts as parts
 

@@ -1,12 +1,11 @@
 -- Ranks order all numbers of a lawful table, since a price is a total of one, and past the links of none.
-use Rattle.std.proofs.Common.{◌≡◌, ℕ, ◌<◌, ◌≤◌, Bool, true, false, not, ◌&&◌, ◌||◌, T, ltb, ◌⊎◌, length, Some, None, Option, sym, refl, ap, ◌∙◌, subst, inl, inr, arith}
+use Rattle.std.proofs.Common.{◌≡◌, ℕ, ◌<◌, Bool, true, false, not, ◌&&◌, ◌||◌, T, ltb, ◌⊎◌, Some, None, Option, refl, subst, inl, inr, arith}
 use native.Mathlib.Decide.{dec_lt}
 use Rattle.std.proofs.lemmas.Option.{slice_get_past}
 use Rattle.std.specs.List.{slice_get}
-use Rattle.price.specs.Kind.{Operations, Laws, TotalOf, Compared}
+use Rattle.price.specs.Kind.{Operations, Laws, Compared}
 use Rattle.price.specs.Kind.TotalOf.{none, one}
 use Rattle.price.specs.Kind.Compared.{total}
-use Rattle.spanning.specs.Trees.{Ranked}
 use Rattle.spanning.proofs.Subsets.{true_or, same_or}
 use Rattle.table.specs.declared.links.Link.{Link}
 use Rattle.table.specs.declared.marks.Role.{Role}

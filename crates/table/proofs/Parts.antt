@@ -1,26 +1,23 @@
 -- The parts that kept links join, numbered by their lowest points, and chains over them.
-use Rattle.std.proofs.Common.{◌≡◌, ℕ, zero, suc, ◌<◌, ◌≤◌, Bool, true, false, not, ◌&&◌, ◌||◌, T, eqb, ◌⊎◌, List, [], ◌∷◌, map, length, get_or, Some, None, Option, sym, refl, ap, ◌∙◌, subst, inl, inr, arith, eqb→eq}
+use Rattle.std.proofs.Common.{◌≡◌, ℕ, suc, ◌<◌, Bool, not, ◌&&◌, T, eqb, ◌⊎◌, List, [], ◌∷◌, map, length, Some, sym, refl, ap, ◌∙◌, subst, inl, inr, arith, eqb→eq}
 use native.Mathlib.Decide.{dec_lt}
 use lib.Dec.{eqb_refl}
-use Rattle.std.proofs.lemmas.List.{get_or_past}
 use Rattle.std.proofs.lemmas.Option.{slice_get_past}
 use Rattle.std.specs.List.{slice_get}
 use Rattle.price.specs.Kind.{Operations, Laws}
-use Rattle.spanning.specs.Closure.{label_of, share_label}
-use Rattle.spanning.specs.Joined.{Graph, Joined, Spans}
+use Rattle.spanning.specs.Joined.{Joined, Spans}
 use Rattle.spanning.specs.Joined.Joined.{same, forth, back}
 use Rattle.spanning.specs.Sets.{count}
-use Rattle.spanning.proofs.Chains.{join, turn, wider}
+use Rattle.spanning.proofs.Chains.{join, wider}
 use Rattle.spanning.proofs.LabelsDecide.{joined_is, is_joined}
 use Rattle.spanning.proofs.Few.{label_low, label_idle}
-use Rattle.spanning.proofs.Subsets.{or_left, or_right, or_cases, and_both, and_left, and_right, not_from, not_to, true_or, same_or}
-use Rattle.table.specs.declared.links.Link.{Link}
-use Rattle.table.specs.Narrowed.{lowest_of, is_lowest, part_of, between, numbers_of, narrowed_link, numbers, narrowed, number_below, point_below, lowered, lifted}
-use Rattle.table.specs.Ranks.{ends, link_count, kept, free, usable, first_end, second_end}
+use Rattle.spanning.proofs.Subsets.{or_left, or_right, or_cases, and_both, and_left, and_right}
+use Rattle.table.specs.Narrowed.{lowest_of, is_lowest, part_of, between, narrowed_link, numbers, narrowed, number_below, point_below, lowered}
+use Rattle.table.specs.Ranks.{ends, link_count, kept, free, first_end, second_end}
 use Rattle.table.specs.Table.{Table, Lawful}
 use Rattle.table.specs.Trees.{is_spanned}
 use Rattle.table.proofs.Graphs as graphs
-use Rattle.table.proofs.Numbers.{nth_map, count_rises, count_steps, length_numbers, at_place, stands, Stands}
+use Rattle.table.proofs.Numbers.{nth_map, count_steps, length_numbers, at_place, stands, Stands}
 use Rattle.table.proofs.Order.{free_below_lem}
 
 module _ {K : Type 0} (o : Operations K) (laws : Laws o) (t : Table K) (lawful : Lawful o t) where

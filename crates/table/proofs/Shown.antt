@@ -1,5 +1,5 @@
 -- There is exactly one tree shown where lawful trees exist.
-use Rattle.std.proofs.Common.{◌≡◌, ℕ, Bool, T, sym, refl, ap, ◌∙◌, subst}
+use Rattle.std.proofs.Common.{◌≡◌, ℕ, Bool, T, sym, subst}
 use Rattle.price.specs.Kind.{Operations, Laws}
 use Rattle.spanning.specs.Joined.{NoRing}
 use Rattle.spanning.specs.Lawful.{AllJoined}
@@ -11,7 +11,7 @@ use Rattle.spanning.proofs.Totals.{cost_same}
 use Rattle.table.specs.Laws.{OneShown}
 use Rattle.table.specs.Ranks.{ends, link_count, kept, free, before, price_of}
 use Rattle.table.specs.Table.{Table, Lawful}
-use Rattle.table.specs.Trees.{LawfulTreeOf, cost_of, OnPathOf, TreeShown, is_spanned, shown}
+use Rattle.table.specs.Trees.{cost_of, OnPathOf, TreeShown, is_spanned, shown}
 use Rattle.table.proofs.Graphs as graphs
 
 module _ {K : Type 0} (o : Operations K) (laws : Laws o) (t : Table K) (lawful : Lawful o t) where

@@ -1,5 +1,5 @@
 -- A link has one support and, where a tree fits, one finding.
-use Rattle.std.proofs.Common.{◌≡◌, ℕ, Bool, T, ◌⊎◌, Some, None, Option, sym, refl, ap, ◌∙◌, subst, inl, inr}
+use Rattle.std.proofs.Common.{◌≡◌, ℕ, Bool, T, Some, None, Option, sym, refl, ap, inl, inr}
 use Rattle.price.specs.Kind.{Operations, Laws}
 use Rattle.spanning.proofs.Subsets.{true_or}
 use Rattle.table.specs.declared.verdicts.Finding.{Finding}

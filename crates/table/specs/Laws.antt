@@ -12,7 +12,7 @@ use Rattle.table.specs.declared.verdicts.Verdict.TheVariants as verdict
 use Rattle.table.specs.Ranks.{ends, link_count, kept, free, price_of, before}
 use Rattle.table.specs.Table.{Table, Lawful}
 use Rattle.table.specs.Trees.{LawfulTreeOf, cost_of, TreeShown, shown}
-use Rattle.table.specs.Verdicts.{VerdictIs, verdict_of, least_cost}
+use Rattle.table.specs.Verdicts.{VerdictIs, verdict_of}
 use Rattle.table.specs.Findings.{FindingIs, SupportIs, finding_of, support_of, exchanged}
 
 -- the ranks of a lawful table's free links are a strict total order, which never puts a dearer link first

@@ -1,4 +1,6 @@
 //! Link tables: points joined by priced and marked links. Their links, marks and refusals.
+#![tactic(auto)]
+
 ghost use Rattle.std.specs.Prelude.{◌≡◌, length};
 ghost use Rattle.std.specs.List.{slice_get};
 ghost use Rattle.table.specs.Table.{Table};
@@ -43,7 +45,7 @@ pub trait LinkTable<K> {
 
 /// The ranks of a lawful table's free links are a strict total order, which never puts a dearer link first.
 pub fn ranks_order<K: PriceKind>() -> u8
-    ensures { RanksOrder operations }
+    ensures { RanksOrder K.operations }
 {
     0
 }
@@ -51,7 +53,7 @@ pub fn ranks_order<K: PriceKind>() -> u8
 /// If kept links of a lawful table close no ring and links that are not barred join all points, there is exactly one tree shown, and
 /// else no lawful tree. The verdict by computation is the one that is true, and the only one.
 pub fn tables_tell<K: PriceKind>() -> u8
-    ensures { TablesTell operations }
+    ensures { TablesTell K.operations }
 {
     0
 }
@@ -59,14 +61,14 @@ pub fn tables_tell<K: PriceKind>() -> u8
 /// Where lawful trees exist, the support by computation is the one defined, and tells the least lawful tree that holds a free link
 /// outside the tree shown, and the least that lacks one in it.
 pub fn supports_tell<K: PriceKind>() -> u8
-    ensures { SupportsTell operations }
+    ensures { SupportsTell K.operations }
 {
     0
 }
 
 /// Where the least cost of a lawful table is within the budget, the finding by computation is the one that is true, and the only one.
 pub fn findings_tell<K: PriceKind>() -> u8
-    ensures { FindingsTell operations }
+    ensures { FindingsTell K.operations }
 {
     0
 }
@@ -74,7 +76,7 @@ pub fn findings_tell<K: PriceKind>() -> u8
 /// Where two lawful tables differ in one link, at most one link leaves the tree shown and at most one enters, both or neither, and the
 /// changed link is then one of the two.
 pub fn one_exchange<K: PriceKind>() -> u8
-    ensures { OneExchange operations }
+    ensures { OneExchange K.operations }
 {
     0
 }
@@ -82,7 +84,7 @@ pub fn one_exchange<K: PriceKind>() -> u8
 /// The narrowing of a lawful table whose kept links close no ring is lawful, and its trees, costs, ranks, verdict, tree shown,
 /// findings and supports are those below, link by link.
 pub fn narrowing_keeps<K: PriceKind>() -> u8
-    ensures { NarrowingKeeps operations }
+    ensures { NarrowingKeeps K.operations }
 {
     0
 }

@@ -1,5 +1,7 @@
 //! How long it takes to order the links of a sheet and to grow its tree. Reads a link file of the kind bytes from standard input, gives
 //! its links other prices in each round, and prints what the rounds add up to; the times go to standard error.
+#![tactic(auto)]
+
 use forest::growing::{Growth, grow};
 use forest::networks::{LINKS, Network};
 use link_file::Reader;

@@ -5,7 +5,7 @@ use price::PriceKind;
 
 /// What is computed on the network of a lawful table is what the table's definitions say: ring, cut and the tree shown.
 pub fn networks_tell<K: PriceKind>() -> u8
-    ensures { NetworksTell operations }
+    ensures { NetworksTell K.operations }
 {
     0
 }
@@ -13,7 +13,7 @@ pub fn networks_tell<K: PriceKind>() -> u8
 /// In the tree shown, the last-ranked free link on the path of a free link outside it, and the first replacement of a free link in it,
 /// are their supports.
 pub fn paths_tell<K: PriceKind>() -> u8
-    ensures { PathsTell operations }
+    ensures { PathsTell K.operations }
 {
     0
 }

@@ -10,7 +10,7 @@ returns-in-Some g c =
     let i = c.args.number - 1 in
     let next : c.args.number ≡ suc i = omega arith in
     let place = ap (line_of amount g.K.StorableKind.forms.code table c.args.budget) next in
-    c.link-line.ensures ∙ sym (place ∙ line_of_link amount table.links i c.in-Some.link (cc))
+    c.link_line.ensures ∙ sym (place ∙ line_of_link amount table.links i c.in-Some.link (cc))
 
 pub returns-in-None : goal.returns-in-None
 returns-in-None g c =

@@ -15,7 +15,7 @@ impl<'a, K: PriceKind> Plan<'a, K> {
         budget: &'a mut K,
         number: u32,
     ) -> Plan<'a, K>
-        ensures model { model_of result ≡ opened operations }
+        ensures model { model_of result ≡ opened K.operations }
         ensures number { result.number ≡ number }
     {
         *budget = K::zero();

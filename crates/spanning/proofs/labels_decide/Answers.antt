@@ -1,4 +1,4 @@
-use Rattle.std.proofs.Common.{◌≤◌, T, eqb, sym, ap, ◌∙◌, subst, eqb→eq}
+use Rattle.std.proofs.Common.{◌≤◌, T, eqb, sym, subst, eqb→eq}
 use lib.Dec.{eqb_refl}
 use Rattle.spanning.specs.Closure.{label_of}
 use Rattle.spanning.proofs.LabelsDecide.{joined_is, is_joined}

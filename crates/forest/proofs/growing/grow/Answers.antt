@@ -17,11 +17,11 @@ returns c =
       bits = λ k. all_same 2048 k false ∙ sym (is_false (kept_below n 0 k) (none_below k));
       closed = refl;
     } in
-    let kept = c.keep-all-ring.ensures start in
+    let kept = c.keep_all-ring.ensures start in
     let order = c.args.order.now in
-    let grown = λ (before : ℕ → ℕ → Bool) (ranked : Ranked n.count (kept_of n) (free_of n) before) (ordered : Ordered (free_of n) before order). c.grow-all.ensures before ranked ordered (grown_none n order before c.keep-all-ring.new.parts.parents c.keep-all-ring.new.tree c.keep-all-ring.result kept) in
+    let grown = λ (before : ℕ → ℕ → Bool) (ranked : Ranked n.count (kept_of n) (free_of n) before) (ordered : Ordered (free_of n) before order). c.grow_all.ensures before ranked ordered (grown_none n order before c.keep_all-ring.new.parts.parents c.keep_all-ring.new.tree c.keep_all-ring.result kept) in
     record {
       ring = kept.closed;
-      tree = λ before ranked ordered. grown_tree n order before ranked ordered c.grow-all.new.parts.parents c.grow-all.new.tree (grown before ranked ordered);
-      cut = λ before ranked ordered. c.first-apart-cut.ensures (grown_parts n order before ranked ordered c.grow-all.new.parts.parents c.grow-all.new.tree (grown before ranked ordered));
+      tree = λ before ranked ordered. grown_tree n order before ranked ordered c.grow_all.new.parts.parents c.grow_all.new.tree (grown before ranked ordered);
+      cut = λ before ranked ordered. c.first_apart-cut.ensures (grown_parts n order before ranked ordered c.grow_all.new.parts.parents c.grow_all.new.tree (grown before ranked ordered));
     }

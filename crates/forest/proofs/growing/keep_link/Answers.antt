@@ -16,9 +16,9 @@ returns-in-Kept c = λ before.
     let f = c.first.ensures in
     let s = c.second.ensures in
     let value = c.join-fresh.ensures.value ∙ ap (λ x. not (eqb (root_of ps x) (root_of ps c.second.result))) f ∙ ap (λ x. not (eqb (root_of ps ((links_of n).first i)) (root_of ps x))) s in
-    taken n i ps c.join-fresh.new.self.parents c.args.tree.now c.args.ring c.ring-after.result c.join-fresh.result (omega (arith, c.requires)) c.args.parts.now.long own before value
+    taken n i ps c.join-fresh.new.self.parents c.args.tree.now c.args.ring c.ring_after.result c.join-fresh.result (omega (arith, c.requires)) c.args.parts.now.long own before value
     (c.join-fresh.ensures.represents (links_of n) (kept_below n i) i (sym f) (sym s) (subst (λ x. x < 1024) (sym f) (first_in n i)) (subst (λ x. x < 1024) (sym s) (second_in n i)) before.parts)
-    c.ring-after.ensures
+    c.ring_after.ensures
 
 pub returns-in-Free : goal.returns-in-Free
 returns-in-Free c = λ before.

@@ -26,10 +26,10 @@ loop-link-preserved c tree =
     let few : r.count ≤ 1024 = omega (arith, tree.numbered.few, n.few) in
     elim c.if-not-holds.branch [
       | then-not-holds w ↦
-          subst (λ p. Covering g X order r (i + 1) p.parents c.if-not-holds.out) (sym w.parts-is) (subst (λ o. Covering g X order r (i + 1) w.cover.new.parts.parents o) (sym w.out_is)
+          subst (λ p. Covering g X order r (i + 1) p.parents c.if-not-holds.out) (sym w.parts-is) (subst (λ o. Covering g X order r (i + 1) w.cover.new.parts.parents o) (sym w.out-is)
           (w.cover.ensures X order i tree c.loop-link-test.true refl (bit_left X l l refl (sym w.if-not-holds.ensures)) cov))
       | else-not-holds w ↦
-          subst (λ p. Covering g X order r (i + 1) p.parents c.if-not-holds.out) (sym w.parts-is) (subst (λ o. Covering g X order r (i + 1) c.loop-link.parts.parents o) (sym w.out_is)
+          subst (λ p. Covering g X order r (i + 1) p.parents c.if-not-holds.out) (sym w.parts-is) (subst (λ o. Covering g X order r (i + 1) c.loop-link.parts.parents o) (sym w.out-is)
           (covering_next g n.points X order r tree few n.first_below n.second_below i c.loop-link.parts.parents c.loop-link.out cov (λ no-l. absurd (no-l (bit_taken X l l refl (sym w.if-not-holds.ensures))))))
     ]
 

@@ -1,4 +1,4 @@
-use Rattle.std.proofs.Common.{◌≡◌, ◌+◌, ◌*◌, ◌<◌, ◌≤◌, ◌++◌, length, take, drop, Ok, sym, refl, ap, ◌∙◌, subst, arith}
+use Rattle.std.proofs.Common.{◌≡◌, ◌+◌, ◌*◌, ◌<◌, ◌≤◌, ◌++◌, length, take, drop, Ok, sym, ap, ◌∙◌, subst, arith}
 use Rattle.std.proofs.lemmas.List.{take_at}
 use Rattle.std.specs.List.{flat_map}
 use Rattle.link_file.specs.Format.{header_length, record_length, record_bytes, header_bytes, file_bytes}
@@ -35,19 +35,19 @@ returns g c =
     let room : size ≤ length old = omega arith in
     let long = length_file o f storable t b in
     let records = flat_map (record_bytes f) t.links in
-    let count : c.link-count-count.result ≡ n = c.link-count-count.ensures in
-    let once : c.put-header.new.out ≡ header_bytes f n t.points b ++ drop header_length old =
-    c.put-header.ensures
+    let count : c.link_count-count.result ≡ n = c.link_count-count.ensures in
+    let once : c.put_header.new.out ≡ header_bytes f n t.points b ++ drop header_length old =
+    c.put_header.ensures
     ∙ ap (λ m. header_bytes f m c.points.result b ++ drop header_length old) count
     ∙ ap (λ p. header_bytes f n p b ++ drop header_length old) c.points.ensures in
-    let twice : c.put-records.new.out ≡ take header_length c.put-header.new.out ++ (records ++ drop size c.put-header.new.out) =
-    c.put-records.ensures
-    ∙ ap (λ m. take header_length c.put-header.new.out ++ (records ++ drop (header_length + record_length * m) c.put-header.new.out)) count in
-    let whole = header_then (header_bytes f n t.points b) records old c.put-header.new.out c.put-records.new.out header_length (record_length * n) (length_header o f storable n t.points b) once twice in
+    let twice : c.put_records.new.out ≡ take header_length c.put_header.new.out ++ (records ++ drop size c.put_header.new.out) =
+    c.put_records.ensures
+    ∙ ap (λ m. take header_length c.put_header.new.out ++ (records ++ drop (header_length + record_length * m) c.put_header.new.out)) count in
+    let whole = header_then (header_bytes f n t.points b) records old c.put_header.new.out c.put_records.new.out header_length (record_length * n) (length_header o f storable n t.points b) once twice in
     let written = written_whole (file_bytes f t b) old size long room in
-    let length-is : header_length + record_length * c.link-count-count.result ≡ size = ap (λ m. header_length + record_length * m) count in
-    let front : file_bytes f t b ≡ take (header_length + record_length * c.link-count-count.result) c.put-records.new.out =
-    sym (ap (λ m. take m c.put-records.new.out) length-is ∙ ap (take size) whole ∙ take_at (file_bytes f t b) (drop size old) size long) in
+    let length-is : header_length + record_length * c.link_count-count.result ≡ size = ap (λ m. header_length + record_length * m) count in
+    let front : file_bytes f t b ≡ take (header_length + record_length * c.link_count-count.result) c.put_records.new.out =
+    sym (ap (λ m. take m c.put_records.new.out) length-is ∙ ap (take size) whole ∙ take_at (file_bytes f t b) (drop size old) size long) in
     record {
       result = ap Ok length-is ∙ written.0;
       buffer = whole ∙ written.1;

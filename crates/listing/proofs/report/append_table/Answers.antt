@@ -1,4 +1,4 @@
-use Rattle.std.proofs.Common.{◌≡◌, ◌+◌, ◌<◌, ◌≤◌, [], ◌++◌, length, get_or, take, vec_items, sym, ap, ◌∙◌, append_assoc, arith}
+use Rattle.std.proofs.Common.{◌<◌, ◌≤◌, [], ◌++◌, length, get_or, take, vec_items, sym, ap, ◌∙◌, append_assoc, arith}
 use Rattle.std.proofs.lemmas.List.{take_all}
 use Rattle.std.specs.List.{flat_map}
 use Rattle.listing.specs.Lines.{head_line, link_lines}
@@ -12,10 +12,10 @@ loop-number-preserved g c =
     let lines = link_lines amount 0 table.links in
     let head = head_line table.points (length table.links) g.K.StorableKind.forms.code (amount c.args.budget) in
     let i = c.loop-number.number in
-    let start = vec_items c.append-line.new.text in
+    let start = vec_items c.append_line.new.text in
     let before = flat_map (λ line. line) (take i lines) in
     let less : i < length lines = omega (arith, length_lines amount 0 table.links) in
-    let more = c.in-ok-append-line-2.ensures in
+    let more = c.in_ok-append_line-2.ensures in
     more
     ∙ ap (λ t. vec_items c.loop-number.text ++ t) (past_head head lines i)
     ∙ ap (λ t. t ++ get_or lines i []) c.loop-number.invariant
@@ -31,6 +31,6 @@ returns g c =
     let start = vec_items c.args.text.now in
     let done : length lines ≤ c.loop-number.number = omega (arith, length_lines amount 0 table.links) in
     c.loop-number.invariant
-    ∙ ap (λ t. vec_items c.append-line.new.text ++ flat_map (λ line. line) t) (take_all c.loop-number.number lines done)
-    ∙ ap (λ t. t ++ flat_map (λ line. line) lines) c.in-ok-append-line.ensures
+    ∙ ap (λ t. vec_items c.append_line.new.text ++ flat_map (λ line. line) t) (take_all c.loop-number.number lines done)
+    ∙ ap (λ t. t ++ flat_map (λ line. line) lines) c.in_ok-append_line.ensures
     ∙ append_assoc start head (flat_map (λ line. line) lines)

@@ -11,7 +11,7 @@ loop-number-init g c =
 pub loop-number-preserved : goal.loop-number-preserved
 loop-number-preserved g c =
     let o = g.K.PriceKind.operations in
-    added_next o c.args.amount (price_of o (g.L.LinkTable.meaning c.args.table.now)) c.args.low c.loop-number.number (held c.args.tree.now) c.loop-number.total c.add-link-total.result c.loop-number.auto.number c.loop-number.invariant c.add-link-total.ensures
+    added_next o c.args.amount (price_of o (g.L.LinkTable.meaning c.args.table.now)) c.args.low c.loop-number.number (held c.args.tree.now) c.loop-number.total c.add_link-total.result c.loop-number.auto.number c.loop-number.invariant c.add_link-total.ensures
 
 pub returns : goal.returns
 returns g c =

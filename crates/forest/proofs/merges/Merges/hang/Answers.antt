@@ -10,8 +10,8 @@ bounds-self-self c =
     let within : c.args.low < length m.times = omega (arith, c.requires.0, m.long_times) in
     room m.times c.args.low m.count within c.requires.1.1.1.0 m.counted
 
-pub invariant-of-self : goal.invariant-of-self
-invariant-of-self c =
+pub invariant_of-self : goal.invariant_of-self
+invariant_of-self c =
     let m = c.args.self.now in
     let low = c.args.low in
     let high = c.args.high in
@@ -20,7 +20,7 @@ invariant-of-self c =
     let few = room m.times low m.count within root m.counted in (
       length-set m.parents low high ∙ m.long_parents,
       (
-        length-set m.sizes high c.saturating-add.result ∙ m.long_sizes,
+        length-set m.sizes high c.saturating_add.result ∙ m.long_sizes,
         (
           length-set m.times low m.count ∙ m.long_times,
           (

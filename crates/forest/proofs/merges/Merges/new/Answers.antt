@@ -3,8 +3,8 @@ use Rattle.forest.proofs.MergeHanging.{zeros_below, never_hung}
 use Rattle.forest.proofs.MergeJoins.{one_at_first, met_at_first}
 use Rattle.forest.proofs.merges.Merges.new.Goals as goal
 
-pub invariant-of-result : goal.invariant-of-result
-invariant-of-result c = (refl, (refl, (refl, (refl, (zeros_below, ((λ x l _. never_hung x l), ((λ x l early. absurd (omega arith)), (refl, tt))))))))
+pub invariant_of-result : goal.invariant_of-result
+invariant_of-result c = (refl, (refl, (refl, (refl, (zeros_below, ((λ x l _. never_hung x l), ((λ x l early. absurd (omega arith)), (refl, tt))))))))
 
 pub returns : goal.returns
 returns c = record {

@@ -4,8 +4,8 @@ use Rattle.table.specs.Ranks.{is_kept, is_free}
 use Rattle.forest.proofs.NetworkLists.{all_same}
 use Rattle.forest.proofs.networks.Network.empty.Goals as goal
 
-pub invariant-of-result : goal.invariant-of-result
-invariant-of-result c =
+pub invariant_of-result : goal.invariant_of-result
+invariant_of-result c =
     let low = c.max.ensures in
     let high = c.min.ensures in
     let zero-at : (k : ℕ) → ◌≡◌ {A = ℕ} (get_or (replicate 2048 0) k 0) 0 = λ k. all_same 2048 k 0 in (

@@ -5,7 +5,7 @@ use Rattle.table.specs.Marks.{role_of}
 use Rattle.forest.specs.Readings.{Added, ReadTo}
 use Rattle.forest.proofs.NetworkReads.{read_next, some_link}
 use Rattle.forest.proofs.networks.Network.of.Goals as goal
-use Rattle.forest.proofs.networks.Network.of.Goals.{in-Some, in-default}
+use Rattle.forest.proofs.networks.Network.of.Goals.{in-Some, in_default}
 
 pub loop-i-init : goal.loop-i-init
 loop-i-init g c = λ lawful. record {
@@ -31,12 +31,12 @@ loop-i-preserved g c = λ lawful.
           let count_is = before.count in
           let added = w.push.ensures.added (omega arith) (subst (λ p. link.first < p) (sym before.points) good.first_below) (subst (λ p. link.second < p) (sym before.points) good.second_below) in
           subst (ReadTo t (i + 1)) (sym w.network-is) (read_next t i c.loop-i.network w.push.new.self link less before is (subst (λ r. Added c.loop-i.network link.first link.second r w.push.new.self) w.role.ensures added))
-      | in-default w ↦
-          let has = some_link t.links i (omega (arith, c.loop-i-test.true, c.link_count_lem.ensures)) in
-          absurd (w.in-default.not-Some has.0 (c.link.ensures ∙ has.1))
+      | in_default w ↦
+          let has = some_link t.links i (omega (arith, c.loop-i-test.true, c.link_count.ensures)) in
+          absurd (w.in_default.not-Some has.0 (c.link.ensures ∙ has.1))
     ]
 
 pub returns : goal.returns
 returns g c = λ lawful.
     let t = g.L.LinkTable.meaning c.args.table.now in
-    subst (λ i. ReadTo t i c.loop-i.network) (omega (arith, c.min-i-end.ensures, c.link_count_lem.ensures, lawful.short, c.loop-i.auto.i-end, c.loop-i-test.false)) (c.loop-i.invariant lawful)
+    subst (λ i. ReadTo t i c.loop-i.network) (omega (arith, c.min-i-end.ensures, c.link_count.ensures, lawful.short, c.loop-i.auto.i-end, c.loop-i-test.false)) (c.loop-i.invariant lawful)

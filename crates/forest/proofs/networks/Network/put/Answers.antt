@@ -5,8 +5,8 @@ use Rattle.table.specs.Ranks.{is_kept, is_free}
 use Rattle.forest.proofs.NetworkLists.{still, still_past}
 use Rattle.forest.proofs.networks.Network.put.Goals as goal
 
-pub invariant-of-self : goal.invariant-of-self
-invariant-of-self c =
+pub invariant_of-self : goal.invariant_of-self
+invariant_of-self c =
     let n = c.args.self.now in
     let i = n.count in
     let room = c.requires.0 in

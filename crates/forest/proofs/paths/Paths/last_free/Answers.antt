@@ -5,17 +5,17 @@ use Rattle.forest.proofs.PathLast.{none_needed, last_free, none_free}
 use Rattle.forest.proofs.RootEnds.{bit_taken, bit_left}
 use Rattle.forest.proofs.paths.Paths.last_free.Goals as goal
 
-pub returns-then-not-is-free : goal.returns-then-not-is-free
-returns-then-not-is-free c = λ X before of.
+pub returns-then-not-is_free : goal.returns-then-not-is_free
+returns-then-not-is_free c = λ X before of.
     let n = c.args.network.now in
     let l = c.in-Some.link in
-    none_free n X before c.args.self.now of c.args.first c.args.second l (c.in-Some.ensures (links_of n) of.joined.remembers) (bit_left (free_of n) l l refl (sym c.if-not-is-free.ensures))
+    none_free n X before c.args.self.now of c.args.first c.args.second l (c.in-Some.ensures (links_of n) of.joined.remembers) (bit_left (free_of n) l l refl (sym c.if-not-is_free.ensures))
 
-pub returns-else-not-is-free : goal.returns-else-not-is-free
-returns-else-not-is-free c = λ X before of.
+pub returns-else-not-is_free : goal.returns-else-not-is_free
+returns-else-not-is_free c = λ X before of.
     let n = c.args.network.now in
     let l = c.in-Some.link in
-    last_free n X before c.args.self.now of c.args.first c.args.second l (c.in-Some.ensures (links_of n) of.joined.remembers) (bit_taken (free_of n) l l refl (sym c.if-not-is-free.ensures))
+    last_free n X before c.args.self.now of c.args.first c.args.second l (c.in-Some.ensures (links_of n) of.joined.remembers) (bit_taken (free_of n) l l refl (sym c.if-not-is_free.ensures))
 
 pub returns-in-None : goal.returns-in-None
 returns-in-None c = λ X before of.

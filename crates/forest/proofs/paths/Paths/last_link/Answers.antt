@@ -13,8 +13,8 @@ returns-then-holds c = λ before of.
     let l = c.args.link in
     told_inside c.args.network.now X before l (bit_taken X l l refl (sym c.if-holds.ensures))
 
-pub returns-then-is-free : goal.returns-then-is-free
-returns-then-is-free c = λ before of.
+pub returns-then-is_free : goal.returns-then-is_free
+returns-then-is_free c = λ before of.
     let n = c.args.network.now in
     let g = links_of n in
     let X = held c.args.tree.now in
@@ -23,11 +23,11 @@ returns-then-is-free c = λ before of.
     record {
       outside = λ _ _. subst (λ x. LastFree g (free_of n) before X x (g.second l) r) c.first.ensures (subst (λ y. LastFree g (free_of n) before X c.first.result y r) c.second.ensures (c.last_free.ensures X before of));
       inside = λ own. absurd (bit_left X l l refl (sym c.if-holds.ensures) own);
-      not_free = λ out. absurd (out (bit_taken (free_of n) l l refl (sym c.if-is-free.ensures)));
+      not_free = λ out. absurd (out (bit_taken (free_of n) l l refl (sym c.if-is_free.ensures)));
     }
 
 pub returns : goal.returns
 returns c = λ before of.
     let n = c.args.network.now in
     let l = c.args.link in
-    told_not_free n (held c.args.tree.now) before l (bit_left (free_of n) l l refl (sym c.if-is-free.ensures))
+    told_not_free n (held c.args.tree.now) before l (bit_left (free_of n) l l refl (sym c.if-is_free.ensures))

@@ -4,7 +4,7 @@ use Rattle.forest.specs.Paths.{JoinedByRank, rest_below}
 use Rattle.forest.proofs.paths.joining.join_all_kept.Goals as goal
 
 pub loop-i-preserved : goal.loop-i-preserved
-loop-i-preserved c = λ before alone start. c.join-kept.ensures before alone (c.loop-i.invariant before alone start)
+loop-i-preserved c = λ before alone start. c.join_kept.ensures before alone (c.loop-i.invariant before alone start)
 
 pub returns : goal.returns
 returns c = λ before alone start.

@@ -14,8 +14,8 @@ returns-then-holds c = λ order before i ranked ordered alone within q old.
     let l = c.args.link in
     let S = ranked_to n X order i in
     let own : T (X l) = bit_taken X l l refl (sym c.if-holds.ensures) in
-    joined_same n before (with_link S l) (ranked_to n X order (i + 1)) c.join-link.new.merges (λ k. ap (λ j. with_link S j k) (sym q) ∙ ranked_with n X order before ranked ordered i within (subst (λ j. T (X j)) (sym q) own) k)
-    (c.join-link.ensures before X S alone own (λ k t. subst (λ j. T (without_link X j k)) q (ranked_tight n X order before ranked ordered i within k t)) (λ k t fk. subst (λ j. T (free_of n j) × T (before k j)) q (ranked_late n X order before ranked ordered i within k t fk)) old)
+    joined_same n before (with_link S l) (ranked_to n X order (i + 1)) c.join_link.new.merges (λ k. ap (λ j. with_link S j k) (sym q) ∙ ranked_with n X order before ranked ordered i within (subst (λ j. T (X j)) (sym q) own) k)
+    (c.join_link.ensures before X S alone own (λ k t. subst (λ j. T (without_link X j k)) q (ranked_tight n X order before ranked ordered i within k t)) (λ k t fk. subst (λ j. T (free_of n j) × T (before k j)) q (ranked_late n X order before ranked ordered i within k t fk)) old)
 
 pub returns-else-holds : goal.returns-else-holds
 returns-else-holds c = λ order before i ranked ordered alone within q old.

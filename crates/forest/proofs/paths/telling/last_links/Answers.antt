@@ -16,11 +16,11 @@ loop-i-preserved c =
     let X = held c.args.tree.now in
     let out = c.loop-i.out in
     let i = c.loop-i.i in
-    let r = c.last-link.result in
+    let r = c.last_link.result in
     let inv = c.loop-i.invariant in
     let long : length out ≡ 2048 = inv.2 in
     let within : i < length out = omega (arith, c.loop-i-test.true, c.loop-i.auto.i-end, c.count-i-end.ensures, n.short) in (
-      (λ before of. up_to_next out i r None within (λ k. LastLink n X before k) (inv.0 before of) (c.last-link.ensures before of)),
+      (λ before of. up_to_next out i r None within (λ k. LastLink n X before k) (inv.0 before of) (c.last_link.ensures before of)),
       still_past out i r None within (λ v. v ≡ None) inv.1,
       length-set out i r ∙ long,
     )

@@ -3,8 +3,8 @@ use Rattle.std.proofs.lemmas.List.{length-set, get_or-set_other}
 use Rattle.forest.proofs.RootEnds.{still_lower, still_below}
 use Rattle.forest.proofs.rooted.Rooted.add.Goals as goal
 
-pub invariant-of-self : goal.invariant-of-self
-invariant-of-self c =
+pub invariant_of-self : goal.invariant_of-self
+invariant_of-self c =
     let r = c.args.self.now in
     let n = r.count in
     let top : get_or r.parents 0 0 ≡ 0 = r.top in (

@@ -9,11 +9,11 @@ pub add-requires : goal.add-requires
 add-requires c =
     let r = c.args.self.now in
     let n = c.args.network.now in
-    let x = c.far-end-point.result in
-    let lx : x < n.points = subst (λ y. y < n.points) (sym c.far-end-point.ensures) (far_below n c.args.half) in
+    let x = c.far_end-point.result in
+    let lx : x < n.points = subst (λ y. y < n.points) (sym c.far_end-point.ensures) (far_below n c.args.half) in
     let free = room n.points r c.requires.1.1 x c.if-self-point.true lx n.few in
     let few = n.few in
-    (omega arith, (omega arith, (c.requires.1.0, subst (λ y. y < 2048) (sym c.link-of.ensures) (link_below c.args.half c.requires.0))))
+    (omega arith, (omega arith, (c.requires.1.0, subst (λ y. y < 2048) (sym c.link_of.ensures) (link_below c.args.half c.requires.0))))
 
 pub returns-then-self-point : goal.returns-then-self-point
 returns-then-self-point c =
@@ -21,11 +21,11 @@ returns-then-self-point c =
     let s = c.add.new.self in
     let n = c.args.network.now in
     let g = links_of n in
-    let x = c.far-end-point.result in
-    let is : x ≡ far_end g c.args.half = c.far-end-point.ensures in
+    let x = c.far_end-point.result in
+    let is : x ≡ far_end g c.args.half = c.far_end-point.ensures in
     let lx : x < n.points = subst (λ y. y < n.points) (sym is) (far_below n c.args.half) in
     let new = c.if-self-point.true in
-    let added : Added r s x c.args.at (link_of c.args.half) = subst (λ l. Added r s x c.args.at l) c.link-of.ensures c.add.ensures in
+    let added : Added r s x c.args.at (link_of c.args.half) = subst (λ l. Added r s x c.args.at l) c.link_of.ensures c.add.ensures in
     let at = c.args.at in
     let link = link_of c.args.half in
     record {

@@ -5,8 +5,8 @@ use Rattle.link_file.specs.Format.{header_length, record_length, record_count, l
 use Rattle.link_file.proofs.Decoding.{length_links, nth_links}
 use Rattle.link_file.proofs.reading.ReaderLinkTable.link.Goals as goal
 
-pub returns-then-number-count-records : goal.returns-then-number-count-records
-returns-then-number-count-records g c =
+pub returns-then-number-count_records : goal.returns-then-number-count_records
+returns-then-number-count_records g c =
     let f = g.K.StorableKind.forms in
     let z = g.K.PriceKind.operations.zero in
     let bs = c.args.self.now.bytes.now in
@@ -20,6 +20,6 @@ returns g c =
     let bs = c.args.self.now.bytes.now in
     let at = header_length + record_length * c.args.number in
     let less : c.args.number < record_count bs = omega arith in
-    let read : c.decode-record.result ≡ link_at f z (take (length bs - at) (drop at bs)) = c.decode-record.ensures in
+    let read : c.decode_record.result ≡ link_at f z (take (length bs - at) (drop at bs)) = c.decode_record.ensures in
     ap Some (read ∙ ap (link_at f z) (take_rest bs at ∙ sym (drop-drop (record_length * c.args.number) header_length bs)))
     ∙ sym (nth_links f z (record_count bs) c.args.number (drop header_length bs) less)

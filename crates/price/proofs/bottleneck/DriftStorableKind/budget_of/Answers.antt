@@ -1,18 +1,18 @@
-use Rattle.std.proofs.Common.{◌≡◌, ℕ, List, Some, None, rules}
+use Rattle.std.proofs.Common.{◌≡◌, Some, None, rules}
 use Rattle.price.specs.Forms.{Four}
 use Rattle.price.specs.Bottleneck.{of, operations, forms}
 use Rattle.price.specs.FourBytes.{told}
 use Rattle.price.specs.Maxima.{storable}
 use Rattle.price.proofs.bottleneck.DriftStorableKind.budget_of.Goals as goal
 
-pub returns-then-is-budget : goal.returns-then-is-budget
-returns-then-is-budget c =
+pub returns-then-is_budget : goal.returns-then-is_budget
+returns-then-is_budget c =
     let f : Four c.args.form = record { four = search rules; small = λ k. search rules } in
-    let e : Some (of c.from-be-bytes.result) ≡ forms.budget_of c.args.form = search rules in
-    record { value = e; sole = told operations.budget forms.budget_form forms.budget_of storable.budgets c.args.form (Some (of c.from-be-bytes.result)) f e }
+    let e : Some (of c.from_be_bytes.result) ≡ forms.budget_of c.args.form = search rules in
+    record { value = e; sole = told operations.budget forms.budget_form forms.budget_of storable.budgets c.args.form (Some (of c.from_be_bytes.result)) f e }
 
-pub returns-else-is-budget : goal.returns-else-is-budget
-returns-else-is-budget c =
+pub returns-else-is_budget : goal.returns-else-is_budget
+returns-else-is_budget c =
     let f : Four c.args.form = record { four = search rules; small = λ k. search rules } in
     let e : None ≡ forms.budget_of c.args.form = search rules in
     record { value = e; sole = told operations.budget forms.budget_form forms.budget_of storable.budgets c.args.form None f e }

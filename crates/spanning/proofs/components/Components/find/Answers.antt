@@ -1,4 +1,4 @@
-use Rattle.std.proofs.Common.{◌≡◌, ◌<◌, ◌≤◌, length, get_or, sym, refl, ap, ◌∙◌, arith, rules}
+use Rattle.std.proofs.Common.{◌≡◌, ◌<◌, length, get_or, sym, refl, ap, ◌∙◌, arith, rules}
 use Rattle.spanning.specs.Roots.{root_of}
 use Rattle.spanning.proofs.Climbs.{root_past, root_grand, grand_lower, own_root}
 use Rattle.spanning.proofs.components.Components.find.Goals as goal

@@ -1,4 +1,4 @@
-use Rattle.std.proofs.Common.{◌≡◌, ◌<◌, min, max, length, sym, ap, ◌∙◌, subst, arith}
+use Rattle.std.proofs.Common.{◌<◌, min, max, length, sym, ap, ◌∙◌, subst, arith}
 use Rattle.spanning.specs.Roots.{root_of, under}
 use Rattle.spanning.proofs.Represented.{represents_more}
 use Rattle.spanning.proofs.components.Components.join.Goals as goal

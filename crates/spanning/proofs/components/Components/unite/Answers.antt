@@ -1,4 +1,4 @@
-use Rattle.std.proofs.Common.{◌≡◌, ◌<◌, min, max, length, get_or, sym, ap, ◌∙◌, subst, arith}
+use Rattle.std.proofs.Common.{◌≡◌, ◌<◌, length, get_or, sym, ◌∙◌, subst, arith}
 use Rattle.spanning.specs.Roots.{root_of}
 use Rattle.spanning.proofs.Climbs.{root_is_root, root_within, two_roots}
 use Rattle.spanning.proofs.components.Components.unite.Goals as goal

@@ -6,7 +6,7 @@ use Rattle.forest.proofs.rooted.halves.Halves.none.Goals as goal
 pub returns : goal.returns
 returns c = listed_none
 
-pub invariant-of-result : goal.invariant-of-result
-invariant-of-result c =
+pub invariant_of-result : goal.invariant_of-result
+invariant_of-result c =
     let low : (n x m : ℕ) → get_or (replicate n 0) x 0 ≤ m = λ n x m. let z = zeros n x in omega arith in
     (refl, (refl, ((λ x. low 1024 x 4096), ((λ h. low 4096 h h), tt))))

@@ -10,5 +10,5 @@ pub returns-else-gone-lt-LINKS : goal.returns-else-gone-lt-LINKS
 returns-else-gone-lt-LINKS c = λ swaps q old.
     far_swap swaps c.args.number c.in-Some.swap c.args.self.now.heads c.args.self.now.nexts (q ∙ c.in-Some.is) c.if-gone-lt-LINKS.false old
 
-pub returns-in-default : goal.returns-in-default
-returns-in-default c = λ swaps q old. no_swap swaps c.args.number c.args.self.now.heads c.args.self.now.nexts (q ∙ c.in-default.is) old
+pub returns-in_default : goal.returns-in_default
+returns-in_default c = λ swaps q old. no_swap swaps c.args.number c.args.self.now.heads c.args.self.now.nexts (q ∙ c.in_default.is) old

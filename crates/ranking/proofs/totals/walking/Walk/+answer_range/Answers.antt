@@ -15,8 +15,8 @@ returns-then-self-low g m c =
     let budget = c.args.self.now.budget in
     let one : high ≡ low + 1 = omega (arith, c.if-high-low-eq1.true, c.requires.0) in
     record {
-      range = one_answered o laws t X swaps low high c.args.outside budget one c.answer-group.new.fits c.answer-group.ensures.group;
-      rest = one_rest o laws t X swaps low high c.args.outside budget one (subst T (sym c.if-self-low.true) tt) c.args.fits.now c.answer-group.new.fits c.answer-group.ensures.rest;
+      range = one_answered o laws t X swaps low high c.args.outside budget one c.answer_group.new.fits c.answer_group.ensures.group;
+      rest = one_rest o laws t X swaps low high c.args.outside budget one (subst T (sym c.if-self-low.true) tt) c.args.fits.now c.answer_group.new.fits c.answer_group.ensures.rest;
     }
 
 pub returns : goal.returns
@@ -32,11 +32,11 @@ returns g m c =
     let middle = low + (high - low) / 2 in
     let inside = middle_in low high c.requires.0 c.if-high-low-eq1.false in
     let start = c.args.fits.now in
-    let first = c.answer-range.new.fits in
-    let last = c.answer-range-2.new.fits in
+    let first = c.answer_range.new.fits in
+    let last = c.answer_range-2.new.fits in
     record {
       range =
-          halves_answered o laws t X swaps low high c.args.outside budget middle inside.0 inside.1 c.add-range-left.result c.add-range-right.result start first last c.add-range-left.ensures c.add-range-right.ensures
-          c.answer-range.ensures.range c.answer-range-2.ensures.range c.answer-range-2.ensures.rest;
-      rest = halves_rest swaps X low middle high inside.0 inside.1 start first last c.answer-range.ensures.rest c.answer-range-2.ensures.rest;
+          halves_answered o laws t X swaps low high c.args.outside budget middle inside.0 inside.1 c.add_range-left.result c.add-range-right.result start first last c.add_range-left.ensures c.add-range-right.ensures
+          c.answer_range.ensures.range c.answer_range-2.ensures.range c.answer_range-2.ensures.rest;
+      rest = halves_rest swaps X low middle high inside.0 inside.1 start first last c.answer_range.ensures.rest c.answer_range-2.ensures.rest;
     }

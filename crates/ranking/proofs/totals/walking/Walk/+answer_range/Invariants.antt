@@ -1,5 +1,5 @@
 use Rattle.std.proofs.Common.{◌-◌}
 use Rattle.ranking.proofs.totals.walking.Walk.+answer_range.Given as goal
 
-abbrev pub decreases-answer-range : goal.decreases-answer-range
-decreases-answer-range g l = l.high - l.low
+abbrev pub decreases-answer_range : goal.decreases-answer_range
+decreases-answer_range g l = l.high - l.low

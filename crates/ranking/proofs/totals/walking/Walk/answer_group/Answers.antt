@@ -7,8 +7,8 @@ loop-at-init g c =
     walk_starts c.args.self.now.swaps.now c.args.gone (fits_in g.K.PriceKind.operations (g.L.LinkTable.meaning c.args.self.now.table.now) c.args.stays c.args.self.now.budget) c.args.fits.now c.args.self.now.groups.now.heads c.args.self.now.groups.now.nexts c.requires.0 c.requires.1
     c.told-fits c.last-at.result c.last-at.ensures
 
-pub fits-in-requires : goal.fits-in-requires
-fits-in-requires g c = (c.loop-at.invariant.own c.in-Some.number c.in-Some.is).0
+pub fits_in-requires : goal.fits_in-requires
+fits_in-requires g c = (c.loop-at.invariant.own c.in-Some.number c.in-Some.is).0
 
 pub bounds-fits-number : goal.bounds-fits-number
 bounds-fits-number g c = (c.loop-at.invariant.own c.in-Some.number c.in-Some.is).0
@@ -19,7 +19,7 @@ before-at-requires g c = (c.loop-at.invariant.own c.in-Some.number c.in-Some.is)
 pub loop-at-preserved : goal.loop-at-preserved
 loop-at-preserved g c =
     walk_goes_on c.args.self.now.swaps.now c.args.gone (fits_in g.K.PriceKind.operations (g.L.LinkTable.meaning c.args.self.now.table.now) c.args.stays c.args.self.now.budget) c.args.fits.now c.args.self.now.groups.now.heads c.args.self.now.groups.now.nexts c.requires.0 c.requires.1
-    c.loop-at.at c.loop-at.fits c.loop-at.invariant c.in-Some.number c.in-Some.is c.before-at.result c.before-at.ensures c.fits-in.result c.fits-in.ensures
+    c.loop-at.at c.loop-at.fits c.loop-at.invariant c.in-Some.number c.in-Some.is c.before-at.result c.before-at.ensures c.fits_in.result c.fits_in.ensures
 
 pub loop-at-smaller : goal.loop-at-smaller
 loop-at-smaller g c =
@@ -30,6 +30,6 @@ pub returns : goal.returns
 returns g c = record {
   group =
       walk_ends c.args.self.now.swaps.now c.args.gone (fits_in g.K.PriceKind.operations (g.L.LinkTable.meaning c.args.self.now.table.now) c.args.stays c.args.self.now.budget) c.args.fits.now c.args.self.now.groups.now.heads c.args.self.now.groups.now.nexts c.requires.0 c.requires.1
-      c.loop-at.at c.loop-at.fits c.loop-at.invariant c.in-default.is;
+      c.loop-at.at c.loop-at.fits c.loop-at.invariant c.in_default.is;
   rest = c.loop-at.invariant.rest;
 }
