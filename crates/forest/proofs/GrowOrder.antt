@@ -1,14 +1,13 @@
 -- A union-find over the free links in the order of their ranks.
-use Rattle.std.proofs.Common.{◌≡◌, ℕ, zero, suc, ◌+◌, ◌<◌, ◌≤◌, Bool, true, false, cond, not, ◌&&◌, ◌||◌, T, eqb, ltb, ◌⊎◌, List, [], ◌∷◌, ◌++◌, length, get_or, take, set, Some, None, Option, sym, refl, ap, ◌∙◌, subst, inl, inr, arith, eqb→eq, ltb→lt, lt→ltb}
+use Rattle.std.proofs.Common.{◌≡◌, ℕ, zero, suc, ◌+◌, ◌<◌, Bool, true, false, not, ◌&&◌, ◌||◌, T, eqb, ltb, List, [], ◌∷◌, length, get_or, take, set, Some, None, Option, sym, refl, ap, ◌∙◌, subst, inl, inr, arith, eqb→eq, lt→ltb}
 use native.Mathlib.Decide.{dec_lt}
 use lib.Dec.{eqb_refl}
 use Rattle.std.proofs.lemmas.List.{take_more, take_all}
-use Rattle.spanning.specs.Closure.{share_label, Finite}
-use Rattle.spanning.specs.Joined.{Graph, Joined}
+use Rattle.spanning.specs.Closure.{share_label}
 use Rattle.spanning.specs.Roots.{root_of, Represents}
 use Rattle.spanning.specs.Sets.{with_link}
-use Rattle.spanning.specs.Trees.{Ranked, Ordered, prior, greedy}
-use Rattle.spanning.proofs.Subsets.{or_left, or_right, or_cases, and_both, and_left, and_right, not_from, not_to, true_or, same_or, same_test, with_old, with_new, with_cases, Within}
+use Rattle.spanning.specs.Trees.{Ranked, Ordered, prior}
+use Rattle.spanning.proofs.Subsets.{or_left, or_right, or_cases, and_both, and_left, and_right, not_from, not_to, same_or, same_test, with_old, with_new, with_cases, Within}
 use Rattle.table.specs.Verdicts.{lowest}
 use Rattle.table.proofs.Judged.{Found, search_lowest}
 use Rattle.table.proofs.Judged.Found.{some, none}
@@ -17,9 +16,9 @@ use Rattle.forest.specs.Growing.{kept_of, free_of, usable_of, spanned_by, kept_b
 use Rattle.forest.specs.Merges.{among}
 use Rattle.spanning.specs.Sets.{held}
 use Rattle.forest.specs.Readings.{links_of}
-use Rattle.forest.proofs.GrowSteps.{is_true, is_false, represents_same, finite, first_in, second_in, kept_in, same_roots}
+use Rattle.forest.proofs.GrowSteps.{is_true, is_false, represents_same, first_in, second_in, kept_in, same_roots}
 use Rattle.forest.proofs.MergeJoins.{among_push}
-use Rattle.forest.proofs.MergePaths.{Place, among_at, place, place_in_front}
+use Rattle.forest.proofs.MergePaths.{among_at, place_in_front}
 use Rattle.forest.proofs.NetworkLists.{written, unwritten}
 
 -- one more of a list

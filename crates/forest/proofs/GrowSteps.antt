@@ -1,18 +1,16 @@
 -- A union-find over the kept links, one by one.
-use Rattle.std.proofs.Common.{◌≡◌, ℕ, zero, suc, ◌+◌, ◌<◌, ◌≤◌, Bool, true, false, cond, not, ◌&&◌, ◌||◌, T, eqb, ltb, ◌⊎◌, List, length, get_or, set, Some, None, Option, sym, refl, ap, ◌∙◌, subst, inl, inr, arith, eqb→eq, ltb→lt, lt→ltb}
+use Rattle.std.proofs.Common.{◌≡◌, ℕ, suc, ◌+◌, ◌<◌, ◌≤◌, Bool, true, false, cond, not, ◌&&◌, T, eqb, ltb, ◌⊎◌, List, length, set, Some, None, Option, sym, refl, ap, ◌∙◌, subst, inl, inr, arith, eqb→eq, ltb→lt, lt→ltb}
 use lib.Dec.{eqb_refl}
 use Rattle.spanning.specs.Closure.{share_label, Finite}
-use Rattle.spanning.specs.Joined.{Graph, Joined}
+use Rattle.spanning.specs.Joined.{Graph}
 use Rattle.spanning.specs.Roots.{root_of, Represents}
 use Rattle.spanning.specs.Sets.{with_link}
 use Rattle.spanning.proofs.Chains.{wider}
 use Rattle.spanning.proofs.LabelsDecide.{joined_is, is_joined}
-use Rattle.spanning.proofs.Subsets.{or_left, or_right, or_cases, and_both, and_left, and_right, not_from, not_to, true_or, same_or, same_test, with_old, with_new, with_cases, Within}
+use Rattle.spanning.proofs.Subsets.{or_left, and_both, and_left, and_right, true_or, same_or, same_test, with_old, with_new, with_cases, Within}
 use Rattle.table.specs.Verdicts.{lowest, or_else}
-use Rattle.table.specs.Ranks.{is_kept, is_free}
 use Rattle.forest.specs.declared.networks.Network.{Network}
-use Rattle.forest.specs.Growing.{kept_of, free_of, usable_of, spanned_by, kept_below, closes_ring, KeptTo}
-use Rattle.spanning.specs.Sets.{held}
+use Rattle.forest.specs.Growing.{kept_of, free_of, spanned_by, kept_below, closes_ring, KeptTo}
 use Rattle.forest.specs.Readings.{links_of}
 use Rattle.forest.proofs.NetworkLists.{written, unwritten}
 

@@ -1,10 +1,10 @@
 -- What is told of paths and of replacements in the tree shown is the support of each link.
-use Rattle.std.proofs.Common.{◌≡◌, ℕ, ◌<◌, ◌≤◌, Bool, T, ◌⊎◌, List, length, get_or, Some, None, Option, sym, refl, ap, ◌∙◌, subst, inl, inr, arith}
+use Rattle.std.proofs.Common.{ℕ, Bool, T, List, get_or, Some, None, Option, sym, ap, ◌∙◌, subst, inl, inr, arith}
 use native.Mathlib.Decide.{dec_lt}
 use Rattle.price.specs.Kind.{Operations, Laws}
 use Rattle.spanning.specs.Trees.{Ordered}
 use Rattle.spanning.proofs.Subsets.{same_or}
-use Rattle.table.specs.Findings.{LooseOnPath, LooseRejoins, LastOf, FirstOf, SupportIs, support_of}
+use Rattle.table.specs.Findings.{LooseRejoins, LastOf, FirstOf, SupportIs, support_of}
 use Rattle.table.specs.Ranks.{ends, free, before}
 use Rattle.table.specs.Table.{Table, Lawful}
 use Rattle.table.specs.Trees.{shown}

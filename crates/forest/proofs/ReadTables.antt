@@ -1,21 +1,19 @@
 -- What is said of a network is said of the table that it was read from.
-use Rattle.std.proofs.Common.{◌≡◌, ℕ, ◌<◌, ◌≤◌, Bool, true, false, not, ◌&&◌, ◌||◌, T, ltb, ◌⊎◌, get_or, Option, sym, refl, ap, ◌∙◌, subst, inl, inr, arith}
+use Rattle.std.proofs.Common.{◌≡◌, ℕ, Bool, false, not, ◌&&◌, ◌||◌, ltb, get_or, Option, sym, refl, ap, ◌∙◌, arith}
 use mathlib.Core.Path.{fun_ext}
 use native.Mathlib.Decide.{dec_lt}
 use Rattle.std.proofs.lemmas.Option.{slice_get_past}
-use Rattle.std.specs.List.{slice_get}
-use Rattle.price.specs.Kind.{Operations}
 use Rattle.spanning.specs.Closure.{share_label}
 use Rattle.spanning.specs.Joined.{Graph}
 use Rattle.spanning.specs.Trees.{greedy}
 use Rattle.table.specs.declared.marks.Role.{Role}
 use Rattle.table.specs.declared.marks.Role.TheVariants as role
-use Rattle.table.specs.Ranks.{ends, link_count, kept, free, usable, before, first_end, second_end, role_in, is_kept, is_free}
+use Rattle.table.specs.Ranks.{ends, link_count, kept, free, first_end, second_end, role_in, is_kept, is_free}
 use Rattle.table.specs.Table.{Table}
-use Rattle.table.specs.Trees.{is_spanned, shown}
+use Rattle.table.specs.Trees.{is_spanned}
 use Rattle.table.specs.Verdicts.{lowest, ring_link, cut_point}
 use Rattle.forest.specs.declared.networks.Network.{Network}
-use Rattle.forest.specs.Growing.{kept_of, free_of, usable_of, spanned_by, ring_of, cut_of, tree_of}
+use Rattle.forest.specs.Growing.{kept_of, free_of, ring_of, cut_of, tree_of}
 use Rattle.forest.specs.Readings.{links_of, Reads}
 
 module _ {K : Type 0} (t : Table K) (n : Network) (reads : Reads t n) where

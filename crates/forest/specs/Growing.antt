@@ -1,5 +1,5 @@
 -- The greedy tree of a network, grown link by link; the link that closes a ring, and the point that is cut off.
-use Rattle.std.specs.Prelude.{◌≡◌, ℕ, Bool, not, ◌&&◌, ◌||◌, List, length, take, Option, nat_lt}
+use Rattle.std.specs.Prelude.{◌≡◌, ℕ, Bool, not, ◌&&◌, ◌||◌, List, take, Option, nat_lt}
 use Rattle.spanning.specs.Closure.{share_label}
 use Rattle.spanning.specs.Roots.{Represents}
 use Rattle.spanning.specs.Trees.{greedy}

@@ -1,5 +1,5 @@
 -- What is computed on the network of a lawful table is what the table's definitions say.
-use Rattle.std.specs.Prelude.{◌≡◌, ℕ, Bool, T, List, Option}
+use Rattle.std.specs.Prelude.{◌≡◌, ℕ, T, List, Option}
 use Rattle.price.specs.Kind.{Operations}
 use Rattle.spanning.specs.Trees.{Ranked, Ordered}
 use Rattle.table.specs.Findings.{support_of}

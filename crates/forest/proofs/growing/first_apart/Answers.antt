@@ -1,4 +1,4 @@
-use Rattle.std.proofs.Common.{◌≡◌, ℕ, ◌+◌, ◌<◌, ◌≤◌, ◌⊎◌, get_or, sym, refl, ap, ◌∙◌, subst, inl, inr, arith, rules}
+use Rattle.std.proofs.Common.{◌≡◌, get_or, sym, ap, ◌∙◌, inl, inr, arith, rules}
 use Rattle.spanning.specs.Roots.{root_of}
 use Rattle.spanning.proofs.Climbs.{own_root}
 use Rattle.spanning.proofs.Subsets.{same_or}

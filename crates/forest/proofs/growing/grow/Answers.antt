@@ -1,4 +1,4 @@
-use Rattle.std.proofs.Common.{◌≡◌, ℕ, ◌<◌, ◌≤◌, Bool, false, ◌&&◌, T, ltb, replicate, None, sym, refl, ap, ◌∙◌, subst, arith, ltb→lt}
+use Rattle.std.proofs.Common.{ℕ, Bool, false, T, ltb, replicate, None, sym, refl, ◌∙◌, arith, ltb→lt}
 use Rattle.spanning.specs.Trees.{Ranked, Ordered}
 use Rattle.spanning.proofs.Subsets.{and_right}
 use Rattle.forest.specs.Growing.{KeptTo, kept_of, free_of, kept_below}

@@ -1,6 +1,5 @@
-use Rattle.std.proofs.Common.{◌≡◌, ℕ, ◌+◌, ◌<◌, Bool, true, not, T, eqb, length, get_or, set, sym, refl, ap, ◌∙◌, subst, arith, rules}
-use Rattle.spanning.specs.Roots.{root_of, Represents}
-use Rattle.spanning.specs.Sets.{with_link}
+use Rattle.std.proofs.Common.{◌≡◌, ◌+◌, ◌<◌, true, not, T, eqb, get_or, set, sym, ap, ◌∙◌, subst, arith, rules}
+use Rattle.spanning.specs.Roots.{root_of}
 use Rattle.forest.specs.Growing.{joined_to, GrownTo}
 use Rattle.forest.specs.Readings.{links_of}
 use Rattle.forest.proofs.GrowSteps.{first_in, second_in}

@@ -1,6 +1,5 @@
-use Rattle.std.proofs.Common.{◌≡◌, ℕ, ◌<◌, Bool, not, T, eqb, length, sym, refl, ap, ◌∙◌, subst, arith}
+use Rattle.std.proofs.Common.{◌<◌, not, T, eqb, sym, ap, ◌∙◌, subst, arith}
 use Rattle.spanning.specs.Roots.{root_of}
-use Rattle.table.specs.declared.marks.Role.TheVariants as role
 use Rattle.table.specs.Ranks.{is_kept}
 use Rattle.forest.specs.Growing.{kept_of, kept_below}
 use Rattle.forest.specs.Readings.{links_of}

@@ -4,7 +4,7 @@ use Rattle.forest.proofs.MergeJoins.{one_at_first, met_at_first}
 use Rattle.forest.proofs.merges.Merges.new.Goals as goal
 
 pub invariant_of-result : goal.invariant_of-result
-invariant_of-result c = (refl, (refl, (refl, (refl, (zeros_below, ((λ x l _. never_hung x l), ((λ x l early. absurd (omega arith)), (refl, tt))))))))
+invariant_of-result c = record { long_parents = refl; long_sizes = refl; long_times = refl; long_links = refl; below = zeros_below; hung_before = (λ x l _. never_hung x l); rises = (λ x l early. absurd (omega arith)); counted = refl }
 
 pub returns : goal.returns
 returns c = record {

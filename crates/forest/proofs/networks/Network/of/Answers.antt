@@ -1,7 +1,5 @@
-use Rattle.std.proofs.Common.{◌≡◌, ℕ, ◌+◌, ◌<◌, ◌≤◌, min, length, Some, sym, refl, ap, ◌∙◌, subst, arith}
+use Rattle.std.proofs.Common.{◌≡◌, ◌+◌, ◌<◌, ◌≤◌, Some, sym, ◌∙◌, subst, arith}
 use Rattle.std.specs.List.{slice_get}
-use Rattle.table.specs.Table.{LawfulLink}
-use Rattle.table.specs.Marks.{role_of}
 use Rattle.forest.specs.Readings.{Added, ReadTo}
 use Rattle.forest.proofs.NetworkReads.{read_next, some_link}
 use Rattle.forest.proofs.networks.Network.of.Goals as goal

@@ -1,4 +1,3 @@
-use Rattle.std.proofs.Common.{◌≤◌}
 use Rattle.forest.specs.Readings.{ReadTo}
 use Rattle.table.specs.Table.{Lawful}
 use Rattle.forest.proofs.networks.Network.of.Given as goal

@@ -1,4 +1,4 @@
-use Rattle.std.proofs.Common.{◌<◌, length, arith, rules}
+use Rattle.std.proofs.Common.{◌<◌, arith, rules}
 use Rattle.table.specs.declared.marks.Role.TheVariants as role
 use Rattle.forest.proofs.NetworkLists.{any_default}
 use Rattle.forest.proofs.networks.Network.role.Goals as goal

@@ -1,4 +1,4 @@
-use Rattle.std.proofs.Common.{◌≡◌, sym, subst}
+use Rattle.std.proofs.Common.{sym, subst}
 use Rattle.spanning.specs.Trees.{Ranked}
 use Rattle.table.specs.Ranks.{link_count, kept, before}
 use Rattle.table.proofs.Graphs.{ranked}

@@ -9,4 +9,4 @@ returns c = listed_none
 pub invariant_of-result : goal.invariant_of-result
 invariant_of-result c =
     let low : (n x m : ℕ) → get_or (replicate n 0) x 0 ≤ m = λ n x m. let z = zeros n x in omega arith in
-    (refl, (refl, ((λ x. low 1024 x 4096), ((λ h. low 4096 h h), tt))))
+    record { long_heads = refl; long_nexts = refl; head_below = (λ x. low 1024 x 4096); next_lower = (λ h. low 4096 h h) }

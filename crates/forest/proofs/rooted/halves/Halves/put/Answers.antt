@@ -27,13 +27,4 @@ invariant_of-self c =
     let h = c.args.half in
     let x = c.near_end-end.result in
     let low = heads_low (links_of c.args.network.now) (held c.args.tree.now) h heads nexts c.requires.1 x in
-    let within : h < length nexts = omega (arith, c.args.self.now.long_nexts, c.requires.0) in (
-      length-set heads x (h + 1) ∙ c.args.self.now.long_heads,
-      (
-        length-set nexts h (get_or heads x 0) ∙ c.args.self.now.long_nexts,
-        (
-          heads_below heads h x c.requires.0 c.args.self.now.head_below,
-          (nexts_lower nexts h (get_or heads x 0) within low c.args.self.now.next_lower, tt),
-        ),
-      ),
-    )
+    let within : h < length nexts = omega (arith, c.args.self.now.long_nexts, c.requires.0) in record { long_heads = length-set heads x (h + 1) ∙ c.args.self.now.long_heads; long_nexts = length-set nexts h (get_or heads x 0) ∙ c.args.self.now.long_nexts; head_below = heads_below heads h x c.requires.0 c.args.self.now.head_below; next_lower = nexts_lower nexts h (get_or heads x 0) within low c.args.self.now.next_lower }

@@ -36,7 +36,7 @@ returns g m c =
     let last = c.answer_range-2.new.fits in
     record {
       range =
-          halves_answered o laws t X swaps low high c.args.outside budget middle inside.0 inside.1 c.add_range-left.result c.add-range-right.result start first last c.add_range-left.ensures c.add-range-right.ensures
+          halves_answered o laws t X swaps low high c.args.outside budget middle inside.0 inside.1 c.add_range-left.result c.add_range-right.result start first last c.add_range-left.ensures c.add_range-right.ensures
           c.answer_range.ensures.range c.answer_range-2.ensures.range c.answer_range-2.ensures.rest;
       rest = halves_rest swaps X low middle high inside.0 inside.1 start first last c.answer_range.ensures.rest c.answer_range-2.ensures.rest;
     }
