@@ -1,7 +1,6 @@
 //! Plans: sheets of links that are edited and searched under trials.
 #![tactic(auto)]
 
-
 mod changes;
 mod plans;
 mod trials;

@@ -1,11 +1,9 @@
 -- The verdict, from the ring, the cut and the total of the tree.
-use Rattle.std.proofs.Common.{◌≡◌, ℕ, Bool, true, false, cond, T, Some, None, Option, sym, refl, ap, ◌∙◌, subst}
-use mathlib.Core.Path.{fun_ext}
+use Rattle.std.proofs.Common.{◌≡◌, Bool, true, false, cond, None, sym, ap, ◌∙◌, subst}
 use Rattle.price.specs.Kind.{Operations, Laws}
-use Rattle.table.specs.declared.verdicts.Verdict.{Verdict}
 use Rattle.table.specs.declared.verdicts.Verdict.TheVariants as verdict
 use Rattle.table.specs.Table.{Table, Lawful}
-use Rattle.table.specs.Trees.{LawfulTreeOf, cost_of, TreeShown, shown}
+use Rattle.table.specs.Trees.{TreeShown, shown}
 use Rattle.table.specs.Verdicts.{LeastCost, VerdictIs, verdict_of, ring_link, cut_point, least_cost, judged}
 use Rattle.table.proofs.Graphs as graphs
 use Rattle.table.proofs.Judged.{judged_true}

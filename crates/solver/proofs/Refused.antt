@@ -1,5 +1,5 @@
 -- When settling is refused.
-use Rattle.std.proofs.Common.{◌≡◌, ℕ, ◌<◌, ◌≤◌, Bool, true, false, cond, ◌&&◌, T, leb, Some, None, Ok, Err, Option, Result, sym, refl, ap, ◌∙◌, subst, arith, le→leb, leb→le}
+use Rattle.std.proofs.Common.{◌≡◌, ℕ, ◌<◌, ◌≤◌, Bool, true, false, cond, ◌&&◌, T, leb, Some, None, Ok, Err, Option, Result, refl, ap, ◌∙◌, arith, le→leb, leb→le}
 use Rattle.price.specs.Kind.{Operations}
 use Rattle.table.specs.declared.refusals.PlanFault.{PlanFault}
 use Rattle.table.specs.declared.refusals.PlanFault.TheVariants as plan-fault

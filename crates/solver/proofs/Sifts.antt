@@ -1,24 +1,22 @@
 -- Supports and findings from what is told of each link.
-use Rattle.std.proofs.Common.{◌≡◌, ℕ, ◌<◌, Bool, true, false, cond, ◌||◌, T, ◌⊎◌, List, get_or, Some, None, Option, sym, refl, ap, ◌∙◌, subst, inl, inr}
-use mathlib.Core.Path.{fun_ext}
+use Rattle.std.proofs.Common.{◌≡◌, ℕ, Bool, true, false, cond, T, List, get_or, Some, None, Option, sym, refl, ap, ◌∙◌, subst, inl, inr}
 use Rattle.price.specs.Kind.{Operations, Laws}
-use Rattle.spanning.specs.Joined.{Joined, NoRing}
-use Rattle.spanning.specs.Sets.{held, with_link, without_link}
-use Rattle.spanning.specs.Trees.{Ranked, Ordered}
-use Rattle.spanning.proofs.Subsets.{true_or, or_right, without_old, without_apart}
+use Rattle.spanning.specs.Sets.{with_link, without_link}
+use Rattle.spanning.specs.Trees.{Ordered}
+use Rattle.spanning.proofs.Subsets.{true_or, or_right, without_old}
 use Rattle.table.specs.declared.marks.Role.{Role}
 use Rattle.table.specs.declared.marks.Role.TheVariants as role
 use Rattle.table.specs.declared.verdicts.Finding.{Finding}
 use Rattle.table.specs.declared.verdicts.Finding.TheVariants as finding
 use Rattle.table.specs.Findings.{SupportIs, support_of, finding_of, first_to_rejoin, last_on_path, exchanged, open_or}
-use Rattle.table.specs.Ranks.{ends, link_count, kept, free, usable, before, is_kept, is_free}
+use Rattle.table.specs.Ranks.{ends, kept, free, usable, before, is_kept, is_free}
 use Rattle.table.specs.Table.{Table, Lawful}
-use Rattle.table.specs.Trees.{LawfulTreeOf, cost_of, TreeShown, shown}
+use Rattle.table.specs.Trees.{LawfulTreeOf, cost_of, shown}
 use Rattle.table.proofs.Finds.{support_is}
 use Rattle.forest.specs.declared.networks.Network.{Network}
-use Rattle.forest.specs.Growing.{kept_of, free_of}
+use Rattle.forest.specs.Growing.{free_of}
 use Rattle.forest.specs.Paths.{LastFree}
-use Rattle.forest.specs.Readings.{links_of, Reads}
+use Rattle.forest.specs.Readings.{Reads}
 use Rattle.forest.specs.Rooted.{Replaced}
 use Rattle.forest.proofs.ReadSupports.{supports_are}
 use Rattle.forest.proofs.ReadTables as read

@@ -1,5 +1,5 @@
 -- What settling a table answers, and what it writes.
-use Rattle.std.specs.Prelude.{ℕ, zero, suc, Bool, true, false, cond, List, [], ◌∷◌, ◌++◌, length, drop, Some, None, Ok, Err, Option, Result, nat_le}
+use Rattle.std.specs.Prelude.{ℕ, zero, suc, Bool, true, false, cond, List, [], ◌∷◌, ◌++◌, drop, Some, None, Ok, Err, Option, Result, nat_le}
 use Rattle.price.specs.Kind.{Operations}
 use Rattle.table.specs.declared.refusals.PlanFault.{PlanFault}
 use Rattle.table.specs.declared.refusals.PlanFault.TheVariants as plan-fault

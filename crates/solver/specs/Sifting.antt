@@ -1,5 +1,5 @@
 -- What sifting a table answers, and what it writes.
-use Rattle.std.specs.Prelude.{◌≡◌, ℕ, Bool, cond, ◌&&◌, T, List, ◌++◌, length, drop, Some, None, Ok, Err, Option, Result, nat_le}
+use Rattle.std.specs.Prelude.{◌≡◌, ℕ, Bool, cond, ◌&&◌, T, List, ◌++◌, drop, Some, None, Ok, Err, Option, Result, nat_le}
 use Rattle.price.specs.Kind.{Operations}
 use Rattle.table.specs.declared.marks.Role.{Role}
 use Rattle.table.specs.declared.marks.Role.TheVariants as role

@@ -1,5 +1,5 @@
 -- A table with its links ordered and its tree grown.
-use Rattle.std.specs.Prelude.{◌≡◌, ℕ, Bool, take}
+use Rattle.std.specs.Prelude.{◌≡◌, ℕ, take}
 use Rattle.price.specs.Kind.{Operations}
 use Rattle.spanning.specs.Sets.{held}
 use Rattle.spanning.specs.Trees.{Ordered}

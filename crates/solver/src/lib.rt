@@ -1,7 +1,6 @@
 //! Settling and sifting of link tables: the inner layer on which the planner will stand.
 #![tactic(auto)]
 
-
 mod narrowing;
 mod settling;
 mod sifting;

@@ -1,7 +1,6 @@
 //! Tests of the order of links and of the trees on it. The crate exists for its tests only.
 #![tactic(auto)]
 
-
 /// Sheet A: 4 points, the kind bytes, budget 10, and the links 0 1 free 4, 1 2 free 3, 0 2 free 5, 2 3 kept 2 and 1 3 free 6.
 pub const SHEET_A: &[u8; 62] = b"\
     \x01\x00\x00\x00\x39\x01\x00\x04\x00\x00\x00\x0a\

@@ -62,6 +62,6 @@ fn one_comparison_for_each_step(rt: HostRuntime) {
         reads: Cell::new(0),
     };
     let order = Order::of(&table);
-    assert_eq!(rt; order.as_slice(), &[1, 3, 0, 2]);
+    assert_eq!(rt; order.as_slice(), [1, 3, 0, 2].as_slice());
     assert_eq!(rt; table.reads.get(), 14);
 }

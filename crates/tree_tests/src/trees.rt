@@ -14,9 +14,12 @@ fn order_and_tree(rt: HostRuntime) {
     let mut reader = Reader::<Bytes>::new();
     assert!(rt; reader.check(SHEET_A).is_ok());
     let order = Order::of(&reader);
-    assert_eq!(rt; order.as_slice(), &[1, 0, 2, 4]);
+    assert_eq!(rt; order.as_slice(), [1, 0, 2, 4].as_slice());
     let growth = grow(&Network::of(&reader), order.as_slice());
-    assert_eq!(rt; &growth.tree[..6], &[true, true, false, true, false, false]);
+    assert_eq!(rt;
+        &growth.tree[..6],
+        [true, true, false, true, false, false].as_slice()
+    );
     assert_eq!(rt; growth.ring, None);
     assert_eq!(rt; growth.cut, None);
     assert_eq!(rt; tree_total(&reader, &growth.tree).0, 9);
@@ -73,9 +76,9 @@ fn swapped_totals(rt: HostRuntime) {
     swaps[1] = Some(Swap { gone: 1, come: 2 });
     swaps[4] = Some(Swap { gone: 1, come: 4 });
     let within = swaps_within(&reader, &growth.tree, &swaps, Bytes(10));
-    assert_eq!(rt; &within[..5], &[true, false, false, false, false]);
+    assert_eq!(rt; &within[..5], [true, false, false, false, false].as_slice());
     let within = swaps_within(&reader, &growth.tree, &swaps, Bytes(11));
-    assert_eq!(rt; &within[..5], &[true, true, false, false, false]);
+    assert_eq!(rt; &within[..5], [true, true, false, false, false].as_slice());
     let within = swaps_within(&reader, &growth.tree, &swaps, Bytes(12));
-    assert_eq!(rt; &within[..5], &[true, true, false, false, true]);
+    assert_eq!(rt; &within[..5], [true, true, false, false, true].as_slice());
 }

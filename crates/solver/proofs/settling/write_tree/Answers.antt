@@ -1,4 +1,4 @@
-use Rattle.std.proofs.Common.{◌≡◌, ◌<◌, false, cond, length, set, sym, ap, ◌∙◌, arith}
+use Rattle.std.proofs.Common.{cond, set, ap, ◌∙◌, arith}
 use Rattle.spanning.specs.Sets.{held}
 use Rattle.solver.proofs.Written.{listed_next}
 use Rattle.solver.proofs.settling.write_tree.Goals as goal

@@ -1,4 +1,4 @@
-use Rattle.std.proofs.Common.{◌≡◌, ◌≤◌, ◌++◌, drop}
+use Rattle.std.proofs.Common.{◌≡◌, ◌++◌, drop}
 use Rattle.spanning.specs.Sets.{held}
 use Rattle.solver.specs.Settling.{tree_bytes}
 use Rattle.solver.proofs.settling.write_tree.Given as goal

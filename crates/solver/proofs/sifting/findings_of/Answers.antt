@@ -1,5 +1,5 @@
-use Rattle.std.proofs.Common.{◌≡◌, ℕ, ◌<◌, false, length, get_or, None, sym, refl, ap, ◌∙◌, subst, arith}
-use Rattle.std.proofs.lemmas.List.{length-set, get_or_past}
+use Rattle.std.proofs.Common.{◌≡◌, false, get_or, None, refl, ap, ◌∙◌, arith}
+use Rattle.std.proofs.lemmas.List.{length-set}
 use Rattle.spanning.specs.Sets.{held}
 use Rattle.table.specs.declared.marks.Role.TheVariants as roles
 use Rattle.table.specs.declared.verdicts.Finding.TheVariants as findings
@@ -14,7 +14,7 @@ pub loop-i-preserved : goal.loop-i-preserved
 loop-i-preserved c =
     let s = c.args.solution.now in
     let i = c.loop-i.i in (
-      length-set c.loop-i.out c.loop-i.i c.judge-link.result ∙ c.loop-i.invariant.0,
-      up_to_next c.loop-i.out i c.judge-link.result findings.Out (omega (arith, c.loop-i.invariant.0)) (λ k f. f ≡ judged_link (get_or s.network.roles k roles.Barred) (held s.growth.tree k) (get_or c.args.supports.now k None) (get_or c.args.within.now k false)) c.loop-i.invariant.1
-          (c.judge-link.ensures ∙ ap (λ r. judged_link r (held s.growth.tree i) (get_or c.args.supports.now i None) (get_or c.args.within.now i false)) c.role.ensures),
+      length-set c.loop-i.out c.loop-i.i c.judge_link.result ∙ c.loop-i.invariant.0,
+      up_to_next c.loop-i.out i c.judge_link.result findings.Out (omega (arith, c.loop-i.invariant.0)) (λ k f. f ≡ judged_link (get_or s.network.roles k roles.Barred) (held s.growth.tree k) (get_or c.args.supports.now k None) (get_or c.args.within.now k false)) c.loop-i.invariant.1
+          (c.judge_link.ensures ∙ ap (λ r. judged_link r (held s.growth.tree i) (get_or c.args.supports.now i None) (get_or c.args.within.now i false)) c.role.ensures),
     )

@@ -1,13 +1,13 @@
-use Rattle.std.proofs.Common.{◌≡◌, ℕ, ◌<◌, Bool, false, T, get_or, take, None, sym, refl, ap, ◌∙◌, subst}
+use Rattle.std.proofs.Common.{◌≡◌, ℕ, ◌<◌, false, get_or, take, None, sym, ap, ◌∙◌, subst}
 use mathlib.Core.Path.{fun_ext}
-use Rattle.spanning.specs.Joined.{Graph, Joined, NoRing}
+use Rattle.spanning.specs.Joined.{Joined, NoRing}
 use Rattle.spanning.specs.Sets.{held}
 use Rattle.spanning.specs.Trees.{Ranked, Ordered}
 use Rattle.table.specs.declared.marks.Role.TheVariants as roles
-use Rattle.table.specs.Findings.{finding_of, support_of}
-use Rattle.table.specs.Ranks.{ends, link_count, kept, free, before}
+use Rattle.table.specs.Findings.{support_of}
+use Rattle.table.specs.Ranks.{ends, link_count, kept, before}
 use Rattle.table.specs.Trees.{LawfulTreeOf, shown}
-use Rattle.table.specs.Verdicts.{LeastCost, VerdictIs, verdict_of}
+use Rattle.table.specs.Verdicts.{LeastCost, VerdictIs}
 use Rattle.table.proofs.Graphs.{ranked}
 use Rattle.table.proofs.Judged.{judged_true}
 use Rattle.table.proofs.Shown.{sole}
@@ -38,11 +38,11 @@ returns g c = λ lawful solved limited cost fits e l.
     let in_order : Ordered (free_of n) (before o t) order = subst (λ f. Ordered f (before o t) order) (sym (read.same_free_lem t n reads)) solved.ordered in
     let joins : (x : ℕ) → x < n.points → Joined (links_of n) (held s.growth.tree) 0 x = λ x lx. subst (λ h. Joined h (held s.growth.tree) 0 x) (sym (read.same_graph t n reads)) (subst (λ Y. Joined (ends t) Y 0 x) (sym same) (tree.joins_all x (subst (λ p. x < p) reads.points lx))) in
     let ring : NoRing (links_of n) (held s.growth.tree) = subst (λ h. NoRing h (held s.growth.tree)) (sym (read.same_graph t n reads)) (subst (NoRing (ends t)) (sym same) tree.no_ring) in
-    let told : (k : ℕ) → get_or c.supports-of-supports.result k None ≡ support_of o t k = λ k.
-    support_told o laws t lawful n reads order solved.ordered k (get_or c.supports-of-supports.result k None) (subst (λ Y. SupportedBy n Y (before o t) order k (get_or c.supports-of-supports.result k None)) same (c.supports-of-supports.ensures (before o t) ranks in_order joins ring k)) in
-    let swap_is = c.swaps-of-swaps.ensures e l ∙ ap (λ Y. swap_for (Y e) e (get_or c.supports-of-supports.result e None)) same ∙ ap (swap_for (X e) e) (told e) in
-    let answered : SwapsAnswered o t X c.swaps-of-swaps.result budget c.swaps-within-within.result = subst (λ Y. SwapsAnswered o t Y c.swaps-of-swaps.result budget c.swaps-within-within.result) same c.swaps-within-within.ensures.swapped in (
-      c.findings-of-findings.ensures e l ∙ ap (λ Y. judged_link (get_or n.roles e roles.Barred) (Y e) (get_or c.supports-of-supports.result e None) (get_or c.swaps-within-within.result e false)) same ∙ ap (λ r. judged_link (get_or n.roles e roles.Barred) (X e) r (get_or c.swaps-within-within.result e false)) (told e)
-          ∙ finding_told o laws t lawful n reads order solved.ordered tree budget c.swaps-of-swaps.result c.swaps-within-within.result answered e swap_is,
+    let told : (k : ℕ) → get_or c.supports_of-supports.result k None ≡ support_of o t k = λ k.
+    support_told o laws t lawful n reads order solved.ordered k (get_or c.supports_of-supports.result k None) (subst (λ Y. SupportedBy n Y (before o t) order k (get_or c.supports_of-supports.result k None)) same (c.supports_of-supports.ensures (before o t) ranks in_order joins ring k)) in
+    let swap_is = c.swaps_of-swaps.ensures e l ∙ ap (λ Y. swap_for (Y e) e (get_or c.supports_of-supports.result e None)) same ∙ ap (swap_for (X e) e) (told e) in
+    let answered : SwapsAnswered o t X c.swaps_of-swaps.result budget c.swaps_within-within.result = subst (λ Y. SwapsAnswered o t Y c.swaps_of-swaps.result budget c.swaps_within-within.result) same c.swaps_within-within.ensures.swapped in (
+      c.findings_of-findings.ensures e l ∙ ap (λ Y. judged_link (get_or n.roles e roles.Barred) (Y e) (get_or c.supports_of-supports.result e None) (get_or c.swaps_within-within.result e false)) same ∙ ap (λ r. judged_link (get_or n.roles e roles.Barred) (X e) r (get_or c.swaps_within-within.result e false)) (told e)
+          ∙ finding_told o laws t lawful n reads order solved.ordered tree budget c.swaps_of-swaps.result c.swaps_within-within.result answered e swap_is,
       told e,
     )

@@ -1,4 +1,4 @@
-use Rattle.std.proofs.Common.{◌≡◌, ℕ, ◌<◌, ◌≤◌, Bool, true, false, cond, T, ◌⊎◌, length, get_or, take, None, sym, refl, ap, ◌∙◌, subst, inl, inr, arith}
+use Rattle.std.proofs.Common.{◌≡◌, cond, T, get_or, take, None, sym, refl, ap, ◌∙◌, subst, arith}
 use native.Mathlib.Decide.{dec_lt}
 use Rattle.std.proofs.lemmas.List.{length-set, get_or_past}
 use Rattle.spanning.specs.Sets.{held}
@@ -10,7 +10,7 @@ use Rattle.forest.specs.Readings.{links_of}
 use Rattle.forest.specs.Rooted.{Replaced}
 use Rattle.forest.specs.Paths.{LastFree}
 use Rattle.forest.proofs.NetworkLists.{up_to_next}
-use Rattle.solver.specs.Sifting.{chosen, SupportedBy}
+use Rattle.solver.specs.Sifting.{chosen}
 use Rattle.solver.proofs.Refused.{is_true, is_false}
 use Rattle.solver.proofs.sifting.supports_of.Goals as goal
 
@@ -22,8 +22,8 @@ loop-i-preserved c =
     let s = c.args.solution.now in
     let i = c.loop-i.i in (
       length-set c.loop-i.out c.loop-i.i c.choose.result ∙ c.loop-i.invariant.0,
-      up_to_next c.loop-i.out i c.choose.result None (omega (arith, c.loop-i.invariant.0)) (λ k r. r ≡ chosen (free_of s.network k) (held s.growth.tree k) (get_or c.replacements-first.result k None) (get_or c.last-links-last.result k None)) c.loop-i.invariant.1
-          (c.choose.ensures ∙ ap (λ f. chosen f (held s.growth.tree i) (get_or c.replacements-first.result i None) (get_or c.last-links-last.result i None)) (c.is-free.ensures ∙ ap is_free c.role.ensures)),
+      up_to_next c.loop-i.out i c.choose.result None (omega (arith, c.loop-i.invariant.0)) (λ k r. r ≡ chosen (free_of s.network k) (held s.growth.tree k) (get_or c.replacements-first.result k None) (get_or c.last_links-last.result k None)) c.loop-i.invariant.1
+          (c.choose.ensures ∙ ap (λ f. chosen f (held s.growth.tree i) (get_or c.replacements-first.result i None) (get_or c.last_links-last.result i None)) (c.is_free.ensures ∙ ap is_free c.role.ensures)),
     )
 
 pub returns : goal.returns
@@ -33,9 +33,9 @@ returns c = λ before ranked ordered joins ring e.
     let X = held s.growth.tree in
     let order = take s.order.count s.order.numbers in
     let first = get_or c.replacements-first.result e None in
-    let last = get_or c.last-links-last.result e None in
-    let told = c.last-links-last.ensures before ranked (subst (Ordered (free_of n) before) (sym c.as-slice.ensures) ordered) ring e in
-    let replaced : T (X e) → Replaced (links_of n) X order e first = λ own. subst (λ xs. Replaced (links_of n) X xs e first) c.as-slice-2.ensures (c.replacements-first.ensures.first joins ring e own) in
+    let last = get_or c.last_links-last.result e None in
+    let told = c.last_links-last.ensures before ranked (subst (Ordered (free_of n) before) (sym c.as_slice.ensures) ordered) ring e in
+    let replaced : T (X e) → Replaced (links_of n) X order e first = λ own. subst (λ xs. Replaced (links_of n) X xs e first) c.as_slice-2.ensures (c.replacements-first.ensures.first joins ring e own) in
     elim (dec_lt e 2048) [
       | yes l ↦
           let is : get_or c.loop-i.out e None ≡ chosen (free_of n e) (X e) first last = c.loop-i.invariant.1 e (omega (arith, c.loop-i-test.false)) in

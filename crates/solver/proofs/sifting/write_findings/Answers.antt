@@ -1,4 +1,4 @@
-use Rattle.std.proofs.Common.{◌≡◌, ◌<◌, length, get_or, set, sym, ap, ◌∙◌, arith}
+use Rattle.std.proofs.Common.{get_or, set, ap, ◌∙◌, arith}
 use Rattle.table.specs.declared.verdicts.Finding.TheVariants as findings
 use Rattle.table.specs.Findings.{finding_number}
 use Rattle.solver.proofs.Written.{listed_next}

@@ -10,8 +10,8 @@ use Rattle.planner.proofs.plans.Plan.begin.Goals as goal
 deeper : (d : ℕ) → d < 16 → d + 1 ≤ 16
 deeper d l = omega arith
 
-pub invariant-of-self : goal.invariant-of-self
-invariant-of-self g c =
+pub invariant_of-self : goal.invariant_of-self
+invariant_of-self g c =
     let p = c.args.self.now in
     let d = p.depth in
     let room : d < length p.starts = omega (arith, p.long_starts, c.if-self-ge-DEEPEST.false) in (
