@@ -1,10 +1,9 @@
 -- The copies of a plan.
-use Rattle.std.proofs.Common.{◌≡◌, ℕ, zero, suc, ◌+◌, ◌<◌, ◌≤◌, Bool, true, false, cond, T, ltb, List, [], ◌∷◌, ◌++◌, length, get_or, take, drop, set, sym, refl, ap, ◌∙◌, subst, arith, lt→ltb}
-use Rattle.std.proofs.lemmas.List.{get_or-set_same, get_or-set_other, drop_all, length-take-le}
+use Rattle.std.proofs.Common.{◌≡◌, ℕ, zero, suc, ◌+◌, ◌<◌, ◌≤◌, Bool, true, false, T, List, ◌∷◌, length, get_or, set, refl, ap, ◌∙◌, arith}
+use Rattle.std.proofs.lemmas.List.{get_or-set_same, get_or-set_other, drop_all}
 use Rattle.planner.specs.declared.changes.Change.{Change}
-use Rattle.planner.specs.Model.{Copied, Model, begun, may_begin, after_begin}
 use Rattle.planner.specs.Modelled.{copy_at, copies_of}
-use Rattle.planner.specs.Sheets.{Sheet, undone, undone_all}
+use Rattle.planner.specs.Sheets.{Sheet, undone_all}
 
 pub is_true : (b : Bool) → T b → b ≡ true
 is_true true t = refl

@@ -1,4 +1,4 @@
-use Rattle.std.proofs.Common.{◌≡◌, ℕ, suc, ◌+◌, ◌<◌, ◌≤◌, true, cond, T, ltb, length, get_or, take, set, Ok, Err, sym, refl, ap, ◌∙◌, subst, arith, lt→ltb, rules}
+use Rattle.std.proofs.Common.{◌≡◌, ℕ, suc, ◌+◌, ◌<◌, ◌≤◌, true, cond, length, Ok, Err, sym, refl, ap, ◌∙◌, arith, lt→ltb}
 use Rattle.std.proofs.lemmas.List.{length-set, length-take-le}
 use Rattle.table.specs.declared.refusals.PlanFault.TheVariants as plan-fault
 use Rattle.forest.proofs.NetworkLists.{up_to_next}
@@ -14,31 +14,18 @@ pub invariant_of-self : goal.invariant_of-self
 invariant_of-self g c =
     let p = c.args.self.now in
     let d = p.depth in
-    let room : d < length p.starts = omega (arith, p.long_starts, c.if-self-ge-DEEPEST.false) in (
-      p.some,
-      (
-        p.few,
-        (
-          p.short,
-          (
-            p.pooled,
-            (
-              p.brief,
-              (
-                p.trailed,
-                (
-                  deeper p.depth c.if-self-ge-DEEPEST.false,
-                  (
-                    length-set p.starts d p.lines ∙ p.long_starts,
-                    (up_to_next p.starts d p.lines 0 room (λ k n. n ≤ p.lines) p.starts_below (omega arith), tt),
-                  ),
-                ),
-              ),
-            ),
-          ),
-        ),
-      ),
-    )
+    let room : d < length p.starts = omega (arith, p.long_starts, c.if-self-ge-DEEPEST.false) in
+    record {
+      some = p.some;
+      few = p.few;
+      short = p.short;
+      pooled = p.pooled;
+      brief = p.brief;
+      trailed = p.trailed;
+      shallow = deeper p.depth c.if-self-ge-DEEPEST.false;
+      long_starts = length-set p.starts d p.lines ∙ p.long_starts;
+      starts_below = up_to_next p.starts d p.lines 0 room (λ k n. n ≤ p.lines) p.starts_below (omega arith);
+    }
 
 pub returns : goal.returns
 returns g c =
