@@ -17,7 +17,7 @@ pub(crate) const HEADER: usize = 12;
 /// The bytes of a record.
 pub(crate) const RECORD: usize = 10;
 
-/// The bytes of the longestFile file.
+/// The bytes of the longest file.
 pub const LONGEST: usize = HEADER + RECORD * MOST_LINKS;
 
 // What the header holds besides the frame.

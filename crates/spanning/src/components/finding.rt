@@ -67,8 +67,8 @@ impl Components {
         true
     }
 
-    /// Joins the parts of two points, and tells whether they were two; a number past the points stands for point 0. If the parts were those that the links of a set join, they
-    /// are now those that these links and one between the two points join.
+    /// Joins the parts of two points, and tells whether they were two; a number past the points stands for point 0. If the parts were
+    /// those that the links of a set join, they are now those that these links and one between the two points join.
     pub fn join(&mut self, first: u16, second: u16) -> bool
         ensures value { result ≡ not (root_of self.old.parents first == root_of self.old.parents second) }
         ensures after { (z : ℕ) → root_of self.new.parents z ≡ under self.old.parents (min (root_of self.old.parents first) (root_of self.old.parents second)) (max (root_of self.old.parents first) (root_of self.old.parents second)) z }
