@@ -3,26 +3,10 @@ use price::StorableKind;
 use price::additive::Bytes;
 use price::bottleneck::Drift;
 
-// The number of bytes, if any.
-fn bytes(amount: Option<Bytes>) -> Option<i32> {
-    match amount {
-        Some(Bytes(number)) => Some(number),
-        None => None,
-    }
-}
-
-// The number of sixty-fourths, if any.
-fn parts(amount: Option<Drift>) -> Option<u32> {
-    match amount {
-        Some(Drift(number)) => Some(number),
-        None => None,
-    }
-}
-
 #[test]
 fn codes(rt: HostRuntime) {
-    assert_eq!(rt; <Bytes as StorableKind>::code(), 1);
-    assert_eq!(rt; <Drift as StorableKind>::code(), 2);
+    assert_eq!(rt; Bytes::code(), 1);
+    assert_eq!(rt; Drift::code(), 2);
 }
 
 #[test]
@@ -36,58 +20,31 @@ fn written_bytes(rt: HostRuntime) {
 
 #[test]
 fn read_bytes(rt: HostRuntime) {
+    assert_eq!(rt; Bytes::price_of([0xff, 0xff, 0xff, 0xfc]), Some(Bytes(-4)));
     assert_eq!(rt;
-        bytes(<Bytes as StorableKind>::price_of([0xff, 0xff, 0xff, 0xfc])),
-        Some(-4)
+        Bytes::price_of([0, 0x0f, 0x42, 0x40]),
+        Some(Bytes(1_000_000))
     );
+    assert_eq!(rt; Bytes::price_of([0, 0x0f, 0x42, 0x41]), None);
     assert_eq!(rt;
-        bytes(<Bytes as StorableKind>::price_of([0, 0x0f, 0x42, 0x40])),
-        Some(1_000_000)
+        Bytes::price_of([0xff, 0xf0, 0xbd, 0xc0]),
+        Some(Bytes(-1_000_000))
     );
+    assert_eq!(rt; Bytes::price_of([0xff, 0xf0, 0xbd, 0xbf]), None);
     assert_eq!(rt;
-        bytes(<Bytes as StorableKind>::price_of([0, 0x0f, 0x42, 0x41])),
-        None
+        Bytes::budget_of([0, 0x0f, 0x42, 0x41]),
+        Some(Bytes(1_000_001))
     );
-    assert_eq!(rt;
-        bytes(<Bytes as StorableKind>::price_of([0xff, 0xf0, 0xbd, 0xc0])),
-        Some(-1_000_000)
-    );
-    assert_eq!(rt;
-        bytes(<Bytes as StorableKind>::price_of([0xff, 0xf0, 0xbd, 0xbf])),
-        None
-    );
-    assert_eq!(rt;
-        bytes(<Bytes as StorableKind>::budget_of([0, 0x0f, 0x42, 0x41])),
-        Some(1_000_001)
-    );
-    assert_eq!(rt;
-        bytes(<Bytes as StorableKind>::budget_of([0x80, 0, 0, 0])),
-        Some(i32::MIN)
-    );
+    assert_eq!(rt; Bytes::budget_of([0x80, 0, 0, 0]), Some(Bytes(i32::MIN)));
 }
 
 #[test]
 fn drift_both_ways(rt: HostRuntime) {
     assert_eq!(rt; Drift(65_535).price_form(), [0, 0, 0xff, 0xff]);
     assert_eq!(rt; Drift(258).budget_form(), [0, 0, 1, 2]);
-    assert_eq!(rt;
-        parts(<Drift as StorableKind>::price_of([0, 0, 0xff, 0xff])),
-        Some(65_535)
-    );
-    assert_eq!(rt;
-        parts(<Drift as StorableKind>::price_of([0, 1, 0, 0])),
-        None
-    );
-    assert_eq!(rt;
-        parts(<Drift as StorableKind>::budget_of([0, 0, 1, 2])),
-        Some(258)
-    );
-    assert_eq!(rt;
-        parts(<Drift as StorableKind>::budget_of([0, 1, 0, 0])),
-        None
-    );
-    assert_eq!(rt;
-        parts(<Drift as StorableKind>::budget_of([0xff, 0xff, 0xff, 0xff])),
-        None
-    );
+    assert_eq!(rt; Drift::price_of([0, 0, 0xff, 0xff]), Some(Drift(65_535)));
+    assert_eq!(rt; Drift::price_of([0, 1, 0, 0]), None);
+    assert_eq!(rt; Drift::budget_of([0, 0, 1, 2]), Some(Drift(258)));
+    assert_eq!(rt; Drift::budget_of([0, 1, 0, 0]), None);
+    assert_eq!(rt; Drift::budget_of([0xff, 0xff, 0xff, 0xff]), None);
 }

@@ -16,14 +16,14 @@ fn bytes_prices(rt: HostRuntime) {
 
 #[test]
 fn bytes_budgets(rt: HostRuntime) {
-    assert!(rt; <Bytes as PriceKind>::zero().is_budget());
+    assert!(rt; Bytes::zero().is_budget());
     assert!(rt; Bytes(i32::MAX).is_budget());
     assert!(rt; Bytes(i32::MIN).is_budget());
 }
 
 #[test]
 fn drift_limits(rt: HostRuntime) {
-    assert!(rt; <Drift as PriceKind>::zero().is_budget());
+    assert!(rt; Drift::zero().is_budget());
     assert!(rt; Drift(65_535).is_price());
     assert!(rt; !Drift(65_536).is_price());
     assert!(rt; Drift(65_535).is_budget());

@@ -15,7 +15,7 @@ pub const MOST_STEPS: u32 = 200;
 pub const LARGEST_TAG: u32 = 255;
 
 /// A number of steps, with a tag.
-#[derive(Clone, Copy)]
+#[derive(Clone, Copy, PartialEq, Eq, Debug)]
 pub struct Steps {
     pub count: u32,
     pub tag: u32,

@@ -8,29 +8,24 @@ fn steps(count: u32, tag: u32) -> Steps {
     Steps { count, tag }
 }
 
-// Count and tag.
-fn parts(amount: Steps) -> (u32, u32) {
-    (amount.count, amount.tag)
-}
-
 #[test]
 fn any_order(rt: HostRuntime) {
     let a = steps(2, 10);
     let b = steps(200, 255);
     let c = steps(0, 1);
-    assert_eq!(rt; parts(total(&[a, b, c])), (202, 266));
-    assert_eq!(rt; parts(total(&[a, c, b])), (202, 266));
-    assert_eq!(rt; parts(total(&[b, a, c])), (202, 266));
-    assert_eq!(rt; parts(total(&[b, c, a])), (202, 266));
-    assert_eq!(rt; parts(total(&[c, a, b])), (202, 266));
-    assert_eq!(rt; parts(total(&[c, b, a])), (202, 266));
-    assert_eq!(rt; parts(a.plus(b.plus(c))), (202, 266));
+    assert_eq!(rt; total(&[a, b, c]), steps(202, 266));
+    assert_eq!(rt; total(&[a, c, b]), steps(202, 266));
+    assert_eq!(rt; total(&[b, a, c]), steps(202, 266));
+    assert_eq!(rt; total(&[b, c, a]), steps(202, 266));
+    assert_eq!(rt; total(&[c, a, b]), steps(202, 266));
+    assert_eq!(rt; total(&[c, b, a]), steps(202, 266));
+    assert_eq!(rt; a.plus(b.plus(c)), steps(202, 266));
 }
 
 #[test]
 fn most_prices_are_exact(rt: HostRuntime) {
-    assert_eq!(rt; parts(total::<Steps>(&[])), (0, 0));
-    assert_eq!(rt; parts(repeated(steps(200, 255), 1_023)), (204_600, 260_865));
+    assert_eq!(rt; total::<Steps>(&[]), steps(0, 0));
+    assert_eq!(rt; repeated(steps(200, 255), 1_023), steps(204_600, 260_865));
 }
 
 // Amounts that differ may both be not above the other.
@@ -48,7 +43,7 @@ fn admitted(rt: HostRuntime) {
     assert!(rt; !steps(202, 255).is_price());
     assert!(rt; !steps(200, 256).is_price());
     assert!(rt; !steps(199, 0).is_price());
-    assert!(rt; <Steps as PriceKind>::zero().is_budget());
+    assert!(rt; Steps::zero().is_budget());
     assert!(rt; steps(4_000_000_000, 4_000_000_000).is_budget());
     assert!(rt; !steps(3, 0).is_budget());
 }
@@ -59,6 +54,6 @@ fn odd_counts(rt: HostRuntime) {
     let odd = steps(1, 0);
     assert!(rt; !odd.not_above(odd));
     assert!(rt; !odd.not_above(steps(2, 0)));
-    assert_eq!(rt; parts(odd.plus(steps(2, 0))), (1, 0));
-    assert_eq!(rt; parts(steps(2, 0).plus(odd)), (3, 0));
+    assert_eq!(rt; odd.plus(steps(2, 0)), steps(1, 0));
+    assert_eq!(rt; steps(2, 0).plus(odd), steps(3, 0));
 }

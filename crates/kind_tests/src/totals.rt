@@ -5,20 +5,12 @@ use price::bottleneck::Drift;
 
 /// The total of some prices, added from the first to the last.
 pub fn total<K: PriceKind>(prices: &[K]) -> K {
-    let mut sum = K::zero();
-    for price in prices {
-        sum = sum.plus(*price);
-    }
-    sum
+    prices.iter().fold(K::zero(), |sum, price| sum.plus(*price))
 }
 
 /// The total of one price, taken so many times.
 pub fn repeated<K: PriceKind>(price: K, times: u32) -> K {
-    let mut sum = K::zero();
-    for _ in 0..times {
-        sum = sum.plus(price);
-    }
-    sum
+    (0..times).fold(K::zero(), |sum, _| sum.plus(price))
 }
 
 #[test]

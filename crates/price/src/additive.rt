@@ -9,7 +9,7 @@ use super::{PriceKind, StorableKind};
 pub const LARGEST_PRICE: i32 = 1_000_000;
 
 /// A number of bytes: a price, a total or a budget.
-#[derive(Clone, Copy)]
+#[derive(Clone, Copy, PartialEq, Eq, PartialOrd, Ord, Debug)]
 pub struct Bytes(pub i32);
 
 impl PriceKind for Bytes {
@@ -27,11 +27,11 @@ impl PriceKind for Bytes {
     }
 
     fn not_above(self, other: Self) -> bool {
-        self.0 <= other.0
+        self <= other
     }
 
     fn is_price(self) -> bool {
-        -LARGEST_PRICE <= self.0 && self.0 <= LARGEST_PRICE
+        (-LARGEST_PRICE..=LARGEST_PRICE).contains(&self.0)
     }
 
     // Any signed 32-bit number.
@@ -49,6 +49,7 @@ impl StorableKind for Bytes {
         1
     }
 
+    // A kind may store prices and budgets differently, so that each has a form of its own; here each is a line or two.
     fn price_form(self) -> [u8; 4] {
         let Bytes(price) = self;
         price.to_be_bytes()
@@ -56,7 +57,7 @@ impl StorableKind for Bytes {
 
     fn price_of(form: [u8; 4]) -> Option<Self> {
         let price = Bytes(i32::from_be_bytes(form));
-        if price.is_price() { Some(price) } else { None }
+        price.is_price().then_some(price)
     }
 
     fn budget_form(self) -> [u8; 4] {
@@ -66,10 +67,6 @@ impl StorableKind for Bytes {
 
     fn budget_of(form: [u8; 4]) -> Option<Self> {
         let budget = Bytes(i32::from_be_bytes(form));
-        if budget.is_budget() {
-            Some(budget)
-        } else {
-            None
-        }
+        budget.is_budget().then_some(budget)
     }
 }

@@ -12,7 +12,7 @@ pub const LARGEST_PRICE: u32 = 65_535;
 pub const LARGEST_BUDGET: u32 = 65_535;
 
 /// A number of sixty-fourths of a pixel: a price, a total or a budget.
-#[derive(Clone, Copy)]
+#[derive(Clone, Copy, PartialEq, Eq, PartialOrd, Ord, Debug)]
 pub struct Drift(pub u32);
 
 impl PriceKind for Drift {
@@ -29,7 +29,7 @@ impl PriceKind for Drift {
     }
 
     fn not_above(self, other: Self) -> bool {
-        self.0 <= other.0
+        self <= other
     }
 
     fn is_price(self) -> bool {
@@ -50,6 +50,7 @@ impl StorableKind for Drift {
         2
     }
 
+    // A kind may store prices and budgets differently, so that each has a form of its own; here each is a line or two.
     fn price_form(self) -> [u8; 4] {
         let Drift(price) = self;
         price.to_be_bytes()
@@ -57,7 +58,7 @@ impl StorableKind for Drift {
 
     fn price_of(form: [u8; 4]) -> Option<Self> {
         let price = Drift(u32::from_be_bytes(form));
-        if price.is_price() { Some(price) } else { None }
+        price.is_price().then_some(price)
     }
 
     fn budget_form(self) -> [u8; 4] {
@@ -67,10 +68,6 @@ impl StorableKind for Drift {
 
     fn budget_of(form: [u8; 4]) -> Option<Self> {
         let budget = Drift(u32::from_be_bytes(form));
-        if budget.is_budget() {
-            Some(budget)
-        } else {
-            None
-        }
+        budget.is_budget().then_some(budget)
     }
 }

@@ -8,6 +8,8 @@ ghost use Rattle.price.specs.Kind.{Operations, Laws};
 pub mod additive;
 pub mod bottleneck;
 
+// Adding and comparing are the kind's own, and not those of the language's traits: amounts that differ may compare as equal, and the
+// laws speak of totals and budgets alone.
 /// A price kind. A value is an amount: a price, a total of prices or a budget.
 pub trait PriceKind: Copy {
     /// What the kind's amounts are and do.
@@ -41,10 +43,12 @@ pub trait StorableKind: PriceKind {
     /// The code, the forms, and what each form stands for.
     ghost forms: { Forms Self };
 
+    // The code is a byte of the file, so it is a number.
     /// The code.
     fn code() -> u8
         ensures { result ≡ forms.code };
 
+    // Prices and budgets are asked for apart, since a kind may store them differently.
     /// The form of a price, which reads back to it if it is admitted.
     fn price_form(self) -> [u8; 4]
         ensures value { result ≡ forms.price_form self }

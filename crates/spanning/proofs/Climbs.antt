@@ -1,5 +1,5 @@
 -- Climbing a forest of parents.
-use Rattle.std.proofs.Common.{◌≡◌, ℕ, zero, suc, ◌+◌, ◌<◌, ◌≤◌, min, max, Bool, true, false, cond, eqb, List, length, get_or, set, replicate, sym, refl, ap, ◌∙◌, subst, inl, inr, arith}
+use Rattle.std.proofs.Common.{◌≡◌, ℕ, zero, suc, ◌<◌, ◌≤◌, min, max, Bool, true, false, cond, eqb, List, length, get_or, set, replicate, sym, refl, ap, ◌∙◌, subst, inl, inr, arith}
 use native.Mathlib.Decide.{dec_lt}
 use Rattle.std.proofs.lemmas.List.{get_or-set_same, get_or-set_other, get_or_past}
 use Rattle.spanning.specs.Roots.{Forest, steps_up, root_of, under}
@@ -165,16 +165,6 @@ pub zeros : (n k : ℕ) → ◌≡◌ {A = ℕ} (get_or (replicate n 0) k 0) 0
 zeros zero k = refl
 zeros (suc n) zero = refl
 zeros (suc n) (suc k) = zeros n k
-
--- one more point that is its own parent
-pub one_more : (ps : List ℕ) (i : ℕ) → i < length ps → ((k : ℕ) → k < i → get_or ps k 0 ≡ k) → (k : ℕ) → k < i + 1 → get_or (set ps i i) k 0 ≡ k
-one_more ps i l own k h = elim (same_or k i) [
-  | inl q ↦ subst (λ j. get_or (set ps i i) j 0 ≡ j) (sym q) (get_or-set_same ps i i 0 l)
-  | inr apart ↦ get_or-set_other ps i k i 0 apart ∙ own k (omega arith)
-]
-
-pub rest_zero : (ps : List ℕ) (i : ℕ) → ((k : ℕ) → i ≤ k → get_or ps k 0 ≡ 0) → (k : ℕ) → i + 1 ≤ k → get_or (set ps i i) k 0 ≡ 0
-rest_zero ps i none k h = get_or-set_other ps i k i 0 (λ q. omega arith) ∙ none k (omega arith)
 
 pub own_forest : (ps : List ℕ) (n : ℕ) → ((k : ℕ) → k < n → get_or ps k 0 ≡ k) → ((k : ℕ) → n ≤ k → get_or ps k 0 ≡ 0) → Forest ps
 own_forest ps n own none x = elim (dec_lt x n) [

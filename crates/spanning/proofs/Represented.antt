@@ -30,3 +30,9 @@ module _ (ps : List ℕ) (g : Graph) (S : ℕ → Bool) (e : ℕ) (la : g.first 
         (λ q. both.0 (sym (roots x) ∙ q ∙ roots y)),
         (λ d. roots x ∙ both.1 d ∙ sym (roots y)),
       )
+
+-- the same where the ends are those of a link
+pub represents_joined : (ps ps' : List ℕ) → length ps ≡ 1024 → length ps' ≡ 1024 → (a b : ℕ) → ((z : ℕ) → root_of ps' z ≡ under ps (min (root_of ps a) (root_of ps b)) (max (root_of ps a) (root_of ps b)) z) → (g : Graph) (S : ℕ → Bool) (e : ℕ) → g.first e ≡ a → g.second e ≡ b → a < 1024 → b < 1024 → Represents ps g S → Represents ps' g (with_link S e)
+represents_joined ps ps' long long' a b after g S e p q la lb rep =
+    represents_more ps g S e (omega arith) (omega arith) rep ps' (long' ∙ sym long)
+    (λ z. after z ∙ ap (λ x. under ps (min (root_of ps x) (root_of ps b)) (max (root_of ps x) (root_of ps b)) z) (sym p) ∙ ap (λ x. under ps (min (root_of ps (g.first e)) (root_of ps x)) (max (root_of ps (g.first e)) (root_of ps x)) z) (sym q))

@@ -8,6 +8,7 @@ mod finding;
 pub const POINTS: usize = 1_024;
 
 /// For each point its parent, which is no higher; the root of a part is its lowest point.
+// The parents lie in one fixed array, since there is no heap. Clauses read them, and not a view: callers rest on both facts.
 #[derive(Drop)]
 pub struct Components {
     parents: [u16; POINTS],

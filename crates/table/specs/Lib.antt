@@ -9,3 +9,4 @@ pub mod Narrowed
 pub mod Narrows
 pub mod Laws
 pub mod Buffers
+pub mod Printed

@@ -1,8 +1,12 @@
 //! Refusals, with their numbers.
-ghost use Rattle.std.specs.Prelude.{◌≡◌};
+ghost use Rattle.std.specs.Prelude.{◌≡◌, Some};
 ghost use Rattle.table.specs.declared.refusals.FileFault.TheVariants.{Record};
 ghost use Rattle.table.specs.declared.refusals.PlanFault.TheVariants.{File};
+ghost use Rattle.table.specs.Printed.{record_fault_text, file_fault_text, plan_fault_text};
 ghost use Rattle.table.specs.Refusals.{record_refusal, file_refusal, plan_refusal};
+
+use std::error::Error;
+use std::fmt;
 
 /// What is wrong with a record of a link file, with the place of the byte.
 #[derive(Clone, Copy, PartialEq, Eq, Debug)]
@@ -74,6 +78,7 @@ pub enum PlanFault {
 }
 
 impl RecordFault {
+    // The rules number every refusal; its number and its place are two readings of one fault, so each is a method.
     /// The refusal's number.
     pub fn number(self) -> u8
         ensures { result ≡ (record_refusal self).0 }
@@ -91,10 +96,10 @@ impl RecordFault {
         ensures { result ≡ (record_refusal self).1 }
     {
         match self {
-            RecordFault::Length(at) => at,
-            RecordFault::Ends(at) => at,
-            RecordFault::Mark(at) => at,
-            RecordFault::Price(at) => at,
+            RecordFault::Length(at)
+            | RecordFault::Ends(at)
+            | RecordFault::Mark(at)
+            | RecordFault::Price(at) => at,
         }
     }
 }
@@ -183,3 +188,39 @@ impl From<FileFault> for PlanFault {
         PlanFault::File(cause)
     }
 }
+
+/// Prints the number and the place, `refused 17 at 22`.
+impl fmt::Display for RecordFault {
+    ghost output = { λ fault. Some (record_fault_text fault) };
+
+    fn fmt<W: fmt::Write>(&self, f: &mut fmt::Formatter<W>) -> fmt::Result {
+        FileFault::Record(*self).fmt(f)
+    }
+}
+
+/// Prints the number and the place, `refused 17 at 22`.
+impl fmt::Display for FileFault {
+    ghost output = { λ fault. Some (file_fault_text fault) };
+
+    fn fmt<W: fmt::Write>(&self, f: &mut fmt::Formatter<W>) -> fmt::Result {
+        write!(f, "refused {} at {}", self.number(), self.place())
+    }
+}
+
+/// Prints the number, and the place where a file gave cause: `refused 33`, `refused 17 at 22`.
+impl fmt::Display for PlanFault {
+    ghost output = { λ fault. Some (plan_fault_text fault) };
+
+    fn fmt<W: fmt::Write>(&self, f: &mut fmt::Formatter<W>) -> fmt::Result {
+        match self {
+            PlanFault::File(fault) => fault.fmt(f),
+            _ => write!(f, "refused {}", self.number()),
+        }
+    }
+}
+
+impl Error for RecordFault {}
+
+impl Error for FileFault {}
+
+impl Error for PlanFault {}

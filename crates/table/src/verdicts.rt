@@ -3,7 +3,7 @@ ghost use Rattle.std.specs.Prelude.{◌≡◌};
 ghost use Rattle.table.specs.Findings.{finding_number};
 
 /// What settling a table with a budget tells: the first that is true.
-#[derive(Clone, Copy)]
+#[derive(Clone, Copy, PartialEq, Eq, Debug)]
 pub enum Verdict<K> {
     /// Kept links close a ring: the lowest-numbered kept link whose ends kept links of lower number join already.
     Ring(u16),
@@ -26,12 +26,12 @@ pub enum Finding {
     Forced,
 }
 
-impl Finding {
-    /// The finding's number: 0 out, 1 open, 2 forced.
-    pub fn number(self) -> u8
-        ensures { result ≡ finding_number self }
-    {
-        match self {
+/// The finding's number: 0 out, 1 open, 2 forced.
+impl From<Finding> for u8 {
+    ghost from_gives = { λ f n. n ≡ finding_number f };
+
+    fn from(finding: Finding) -> u8 {
+        match finding {
             Finding::Out => 0,
             Finding::Open => 1,
             Finding::Forced => 2,

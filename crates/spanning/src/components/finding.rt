@@ -5,6 +5,7 @@ ghost use Rattle.spanning.specs.Sets.{with_link};
 ghost use Rattle.spanning.specs.Roots.{root_of, under, Represents};
 
 use super::{Components, POINTS};
+use std::array;
 
 impl Components {
     /// Each point by itself.
@@ -12,11 +13,9 @@ impl Components {
         ensures roots { (z : ℕ) → z < 1024 → root_of result.parents z ≡ z }
         ensures represents { (g : Graph) → Represents result.parents g (λ _. false) }
     {
-        let mut parents = [0; POINTS];
-        for i in 0..POINTS {
-            parents[i] = i as u16;
+        Components {
+            parents: array::from_fn(|point| point as u16),
         }
-        Components { parents }
     }
 
     /// The lowest point of the part of a point, and 0 past the points. Paths are halved on the way.
@@ -28,6 +27,7 @@ impl Components {
             return 0;
         }
         let mut at = point;
+        // A walk up the parents, whose length is not known.
         while self.parents[at as usize] != at {
             at = self.halve(at);
         }
@@ -47,24 +47,13 @@ impl Components {
 
     // Hangs a root from a lower root.
     fn hang(&mut self, high: u16, low: u16)
-        requires { (low < high) × ((high < 1024) × ((slice_index self.old.parents low ≡ low) × (slice_index self.old.parents high ≡ high))) }
+        requires lower { low < high }
+        requires within { high < 1024 }
+        requires low_root { slice_index self.old.parents low ≡ low }
+        requires high_root { slice_index self.old.parents high ≡ high }
         ensures { (z : ℕ) → root_of self.new.parents z ≡ under self.old.parents low high z }
     {
         self.parents[high as usize] = low;
-    }
-
-    // Joins the parts of two points, by their roots.
-    fn unite(&mut self, first: u16, second: u16) -> bool
-        ensures value { result ≡ not (root_of self.old.parents first == root_of self.old.parents second) }
-        ensures after { (z : ℕ) → root_of self.new.parents z ≡ under self.old.parents (min (root_of self.old.parents first) (root_of self.old.parents second)) (max (root_of self.old.parents first) (root_of self.old.parents second)) z }
-    {
-        let a = self.find(first);
-        let b = self.find(second);
-        if a == b {
-            return false;
-        }
-        self.hang(a.max(b), a.min(b));
-        true
     }
 
     /// Joins the parts of two points, and tells whether they were two; a number past the points stands for point 0. If the parts were
@@ -74,6 +63,12 @@ impl Components {
         ensures after { (z : ℕ) → root_of self.new.parents z ≡ under self.old.parents (min (root_of self.old.parents first) (root_of self.old.parents second)) (max (root_of self.old.parents first) (root_of self.old.parents second)) z }
         ensures represents { (g : Graph) (S : ℕ → Bool) (e : ℕ) → g.first e ≡ first → g.second e ≡ second → first < 1024 → second < 1024 → Represents self.old.parents g S → Represents self.new.parents g (with_link S e) }
     {
-        self.unite(first, second)
+        let a = self.find(first);
+        let b = self.find(second);
+        if a == b {
+            return false;
+        }
+        self.hang(a.max(b), a.min(b));
+        true
     }
 }

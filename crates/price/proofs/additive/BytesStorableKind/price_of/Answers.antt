@@ -1,18 +1,11 @@
-use Rattle.std.proofs.Common.{◌≡◌, Some, None, w32, to_z, of_z, rules}
+use Rattle.std.proofs.Common.{rules}
 use Rattle.price.specs.Forms.{Four}
-use Rattle.price.specs.Additive.{of, operations, forms}
+use Rattle.price.specs.Additive.{operations, forms}
 use Rattle.price.specs.FourBytes.{told}
 use Rattle.price.specs.Sums.{storable}
 use Rattle.price.proofs.additive.BytesStorableKind.price_of.Goals as goal
 
-pub returns-then-is_price : goal.returns-then-is_price
-returns-then-is_price c =
+pub returns-clause-sole : goal.returns-clause-sole
+returns-clause-sole c =
     let f : Four c.args.form = record { four = search rules; small = λ k. search rules } in
-    let e : Some (of (to_z w32 (of_z w32 c.from_be_bytes.result))) ≡ forms.price_of c.args.form = search rules in
-    record { value = e; sole = told operations.price forms.price_form forms.price_of storable.prices c.args.form (Some (of (to_z w32 (of_z w32 c.from_be_bytes.result)))) f e }
-
-pub returns-else-is_price : goal.returns-else-is_price
-returns-else-is_price c =
-    let f : Four c.args.form = record { four = search rules; small = λ k. search rules } in
-    let e : None ≡ forms.price_of c.args.form = search rules in
-    record { value = e; sole = told operations.price forms.price_form forms.price_of storable.prices c.args.form None f e }
+    told operations.price forms.price_form forms.price_of storable.prices c.args.form _ f (search rules)
