@@ -1,7 +1,5 @@
-pub mod MergedLists
-pub mod MergedSteps
-pub mod MergedHalves
-pub mod OrderLists
+pub mod FreeNumbers
+pub mod RankedNumbers
 pub mod TotalSums
 pub mod SwapGroups
 pub mod SwapWalk

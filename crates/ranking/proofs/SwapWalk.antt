@@ -4,7 +4,7 @@ use native.Mathlib.Decide.{dec_lt}
 use Rattle.price.specs.Kind.{Operations, Laws}
 use Rattle.spanning.specs.Joined.{NoRing}
 use Rattle.spanning.specs.Sets.{with_link, without_link}
-use Rattle.spanning.proofs.Subsets.{or_left, or_right, or_cases, and_both, and_left, and_right, not_from, not_to, true_or, without_in, without_old, without_apart, Within}
+use Rattle.spanning.proofs.Subsets.{or_left, or_right, or_cases, and_both, and_left, and_right, not_from, not_to, true_or, without_old, without_apart, Within}
 use Rattle.table.specs.Ranks.{ends, link_count, usable, price_of}
 use Rattle.table.specs.Table.{Table, Lawful}
 use Rattle.table.specs.Trees.{cost_of}
@@ -33,9 +33,6 @@ module _ (swaps : List (Option Swap)) where
   by_goes : (P : ℕ → Type 0) (w : Option Swap) (l : ℕ) → T (takes (λ k. eqb k l) w) → ((s : Swap) → w ≡ Some s → s.gone ≡ l → P l) → P l
   by_goes P None l t f = absurd t
   by_goes P (Some s) l t f = f s refl (eqb→eq s.gone l t)
-
-  pub takes_it : (S : ℕ → Bool) (l e : ℕ) → T (goes swaps l e) → T (S l) → T (takes S (swap_of swaps e))
-  takes_it S l e t u = by_goes (λ _. T (takes S (swap_of swaps e))) (swap_of swaps e) l t (λ s q r. subst (λ w. T (takes S w)) (sym q) (subst (λ j. T (S j)) (sym r) u))
 
   pub takes_only : (S : ℕ → Bool) (l e : ℕ) → T (goes swaps l e) → T (takes S (swap_of swaps e)) → T (S l)
   takes_only S l e t u = by_goes (λ j. T (S j)) (swap_of swaps e) l t (λ s q r. subst (λ j. T (S j)) r (subst (λ w. T (takes S w)) q u))
@@ -88,12 +85,6 @@ module _ {K : Type 0} (o : Operations K) (laws : Laws o) (t : Table K) (lawful :
             beyond_out p q X k s r.0 r.1))
       ])
 
-  -- one number alone
-  pub outside_one : (low high : ℕ) → high ≡ low + 1 → C (beyond low high X) ≡ C (without_link X low)
-  outside_one low high one = cost_same_sets o laws t lawful (beyond low high X) (without_link X low)
-      (λ k s. without_in X low k (beyond_old low high X k s) (λ q. beyond_out low high X k s (omega arith) (omega arith)))
-      (λ k s. beyond_in low high X k (without_old X low k s) (λ l h. without_apart X low k s (omega arith)))
-
   -- all links outside of all numbers: none
   pub outside_none : (high : ℕ) → ((k : ℕ) → T (X k) → k < high) → C (λ _. false) ≡ C (beyond 0 high X)
   outside_none high all = cost_same_sets o laws t lawful (λ _. false) (beyond 0 high X) (λ k s. absurd s) (λ k s. beyond_out 0 high X k s (omega arith) (all k (beyond_old 0 high X k s)))
@@ -109,11 +100,6 @@ module _ (swaps : List (Option Swap)) (X : ℕ → Bool) (low middle high : ℕ)
   abbrev Same : (ℕ → Bool) → List Bool → List Bool → Type 0
   Same S old new = (e : ℕ) → (T (takes S (swap_of swaps e)) → ⊥) → get_or new e false ≡ get_or old e false
 
-  pub halves_rest : Same (between low middle X) start first → Same (between middle high X) first last → Same (between low high X) start last
-  halves_rest f s e out =
-      s e (λ u. out (takes_more (between middle high X) (between low high X) (swap_of swaps e) (λ k b. between_in low high X k (let x = between_low middle high X k b in omega arith) (between_high middle high X k b) (between_old middle high X k b)) u))
-      ∙ f e (λ u. out (takes_more (between low middle X) (between low high X) (swap_of swaps e) (λ k b. between_in low high X k (between_low low middle X k b) (let x = between_high low middle X k b in omega arith) (between_old low middle X k b)) u))
-
   pub halves_range : (answer : ℕ → Option Swap → Bool)
       → ((l e : ℕ) → T (between low middle X l) → T (goes swaps l e) → get_or first e false ≡ answer l (swap_of swaps e))
       → ((l e : ℕ) → T (between middle high X l) → T (goes swaps l e) → get_or last e false ≡ answer l (swap_of swaps e))
@@ -126,19 +112,8 @@ module _ (swaps : List (Option Swap)) (X : ℕ → Bool) (low middle high : ℕ)
     | no above ↦ s l e (between_in middle high X l (omega arith) (between_high low high X l b) (between_old low high X l b)) t
   ]
 
--- one number, and two halves of more
+-- two halves of more than one number
 module _ {K : Type 0} (o : Operations K) (laws : Laws o) (t : Table K) (X : ℕ → Bool) (swaps : List (Option Swap)) (low high : ℕ) (outside budget : K) where
-  pub one_answered : high ≡ low + 1 → (fits : List Bool) → ((e : ℕ) → T (goes swaps low e) → get_or fits e false ≡ fits_in o t outside budget (swap_of swaps e)) → RangeAnswered o t X swaps low high outside budget fits
-  one_answered one fits answers lawful within ring is l e b u =
-      let own : l ≡ low = only l low high one (between_low low high X l b) (between_high low high X l b) in
-      answers e (subst (λ j. T (goes swaps j e)) own u)
-      ∙ ap (λ v. fits_in o t v budget (swap_of swaps e)) (is ∙ outside_one o laws t lawful X within ring low high one ∙ ap (λ j. cost_of o t (without_link X j)) (sym own)) where
-        only : (l low high : ℕ) → high ≡ low + 1 → low ≤ l → l < high → l ≡ low
-        only l low high e a b = omega arith
-
-  pub one_rest : high ≡ low + 1 → T (X low) → (old fits : List Bool) → ((e : ℕ) → (T (goes swaps low e) → ⊥) → get_or fits e false ≡ get_or old e false) → (e : ℕ) → (T (takes (between low high X) (swap_of swaps e)) → ⊥) → get_or fits e false ≡ get_or old e false
-  one_rest one here old fits rest e out = rest e (λ u. out (takes_it swaps (between low high X) low e u (between_in low high X low (omega arith) (omega arith) here)))
-
   pub halves_answered : (middle : ℕ) → low < middle → middle < high → (left right : K) (start first last : List Bool)
       → left ≡ added_cost o outside (price_of o t) high (from middle X)
       → right ≡ added_cost o outside (price_of o t) middle (from low X)
@@ -176,11 +151,6 @@ module _ {K : Type 0} (o : Operations K) (laws : Laws o) (t : Table K) (bits : L
       answered lawful within ring start s.gone e (between_in 0 n (held bits) s.gone (omega arith) (below s.gone gone) gone) (goes_own swaps e s q)
       ∙ ap (fits_in o t (cost_of o t (without_link (held bits) s.gone)) budget) q
       ∙ ap (λ v. o.not_above v budget) (cost_swapped o laws t lawful (held bits) within ring s.gone s.come gone come new)
-
-  pub none_answered : n ≡ 0 → (budget : K) (fits : List Bool) → SwapsAnswered o t (held bits) swaps budget fits
-  none_answered none budget fits lawful within ring e s q gone come new = let l = all_below lawful within s.gone gone in absurd (clash s.gone n l none) where
-    clash : (k n : ℕ) → k < n → n ≡ 0 → ⊥
-    clash k n l e = omega arith
 
   pub others_false : (fits : List Bool) → ((e : ℕ) → (T (takes (between 0 n (held bits)) (swap_of swaps e)) → ⊥) → get_or fits e false ≡ get_or (replicate 2048 false) e false) → (e : ℕ) → (T (takes (held bits) (swap_of swaps e)) → ⊥) → get_or fits e false ≡ false
   others_false fits rest e out = rest e (λ u. out (takes_more (between 0 n (held bits)) (held bits) (swap_of swaps e) (between_old 0 n (held bits)) u)) ∙ falses 2048 e

@@ -1,8 +1,11 @@
 -- Prices added one by one, and when the total is exact.
-use Rattle.std.proofs.Common.{◌≡◌, ℕ, zero, suc, ◌+◌, ◌<◌, ◌≤◌, min, Bool, true, false, cond, ◌&&◌, ◌||◌, T, ltb, leb, ◌⊎◌, List, length, sym, refl, ap, ◌∙◌, subst, inl, inr, add-one, arith, le→leb, ltb→lt, lt→ltb, leb→le}
+use Rattle.std.proofs.Common.{◌≡◌, ℕ, zero, suc, ◌+◌, ◌-◌, ◌<◌, ◌≤◌, min, Bool, true, false, cond, ◌&&◌, ◌||◌, T, ltb, leb, ◌⊎◌, List, [], ◌∷◌, ◌++◌, length, filter, fold, sym, refl, ap, ◌∙◌, subst, inl, inr, add-zero, add-one, arith, le→leb, ltb→lt, lt→ltb, leb→le}
 use native.Mathlib.Decide.{dec_lt}
 use Rattle.std.proofs.lemmas.List.{get_or_past}
 use Rattle.std.proofs.lemmas.Option.{slice_get_past}
+use Rattle.std.specs.List.{range_with_len}
+use Rattle.std.proofs.lemmas.List.Elements.{filter-append}
+use Rattle.std.proofs.lemmas.List.Sums.{fold-append}
 use Rattle.price.specs.Kind.{Operations, TotalOf, Laws}
 use Rattle.price.specs.Kind.TotalOf.{one}
 use Rattle.spanning.specs.Costs.{cost}
@@ -79,10 +82,27 @@ module _ {K : Type 0} (o : Operations K) (amount : K) (price : ℕ → K) where
     at_from true b t = refl
     at_from false b t = absurd t
 
-  pub added_last : (low i high : ℕ) (X : ℕ → Bool) (x : K) → low ≤ high → i ≤ high → high ≤ i → x ≡ A i (from low X) → x ≡ A high (from low X)
-  added_last low i high X x l a b e = e ∙ ap (λ n. A n (from low X)) (same i high a b) where
-    same : (i high : ℕ) → i ≤ high → high ≤ i → i ≡ high
-    same i high a b = omega arith
+  -- the same along the list of the numbers from low on that X has
+  pub added_along : (low n : ℕ) (X : ℕ → Bool) → fold (λ total k. o.added total (price k)) amount (filter X (range_with_len low n)) ≡ A (low + n) (from low X)
+  added_along low zero X = added_first low X ∙ ap (λ n. A n (from low X)) (sym (add-zero low))
+  added_along low (suc n) X =
+      let f = λ (total : K) (k : ℕ). o.added total (price k) in
+      added_next low (low + n) X (fold f amount (filter X (range_with_len low n))) (fold f amount (filter X (range_with_len low (suc n)))) (omega arith) (added_along low n X) (
+      ap (λ xs. fold f amount (filter X xs)) (range_more low n)
+      ∙ ap (fold f amount) (filter-append X (range_with_len low n) ((low + n) ∷ []))
+      ∙ fold-append f amount (filter X (range_with_len low n)) (filter X ((low + n) ∷ []))
+      ∙ one_more (X (low + n)) (low + n) (fold f amount (filter X (range_with_len low n)))
+      ) ∙ ap (λ m. A m (from low X)) (omega arith) where
+        range_more : (a n : ℕ) → range_with_len a (suc n) ≡ range_with_len a n ++ (a + n) ∷ []
+        range_more a zero = ap (λ j. j ∷ []) (sym (add-zero a))
+        range_more a (suc n) = ap (λ xs. a ∷ xs) (range_more (a + 1) n ∙ ap (λ j. range_with_len (a + 1) n ++ j ∷ []) (omega arith))
+
+        one_more : (b : Bool) (k : ℕ) (x : K) → fold (λ total k. o.added total (price k)) x (cond b (k ∷ []) []) ≡ cond b (o.added x (price k)) x
+        one_more true k x = refl
+        one_more false k x = refl
+
+  pub added_range : (low high : ℕ) (X : ℕ → Bool) → low ≤ high → fold (λ total k. o.added total (price k)) amount (filter X (range_with_len low (high - low))) ≡ A high (from low X)
+  added_range low high X l = added_along low (high - low) X ∙ ap (λ n. A n (from low X)) (omega arith)
 
   pub added_same : (n : ℕ) (X Y : ℕ → Bool) → ((k : ℕ) → X k ≡ Y k) → A n X ≡ A n Y
   added_same zero X Y h = refl

@@ -1,5 +1,5 @@
 -- Totals of sets of links by a kind's own addition, and swaps of one link for another.
-use Rattle.std.specs.Prelude.{◌≡◌, ℕ, zero, suc, ◌<◌, Bool, false, cond, not, ◌&&◌, T, List, length, Some, None, Option, nat_eq, nat_le, nat_lt, slice_index_or}
+use Rattle.std.specs.Prelude.{◌≡◌, ℕ, zero, suc, Bool, false, cond, not, ◌&&◌, T, List, Some, None, Option, nat_eq, nat_le, nat_lt, slice_index_or}
 use Rattle.price.specs.Kind.{Operations}
 use Rattle.spanning.specs.Joined.{NoRing}
 use Rattle.spanning.specs.Sets.{with_link, without_link}
@@ -41,17 +41,6 @@ fits_in o t stays budget (Some s) = o.not_above (o.added stays (price_of o t s.c
 -- whether the swap of e takes a link out
 abbrev pub goes : List (Option Swap) → ℕ → ℕ → Bool
 goes swaps l e = takes (λ k. nat_eq k l) (swap_of swaps e)
-
--- the greatest number below n that passes, if any
-abbrev pub latest : (ℕ → Bool) → ℕ → Option ℕ
-latest P zero = None
-latest P (suc n) = cond (P n) (Some n) (latest P n)
-
--- The links below n in groups, by the link that their swap takes out: the last link of each group, and for each link the one before it in its group.
-pub record Grouped (swaps : List (Option Swap)) (n : ℕ) (heads nexts : List (Option ℕ)) : Type 0 where
-  pub long : length swaps ≡ 2048
-  pub head : (l : ℕ) → l < 2048 → slice_index_or heads l None ≡ latest (goes swaps l) n
-  pub next : (e l : ℕ) → e < n → l < 2048 → T (goes swaps l e) → slice_index_or nexts e None ≡ latest (goes swaps l) e
 
 -- the links of X but for those between two numbers
 abbrev pub beyond : ℕ → ℕ → (ℕ → Bool) → ℕ → Bool

@@ -1,19 +1,19 @@
+use Rattle.std.proofs.Common.{◌-◌, ◌∙◌, rules, refl, tests}
+use Rattle.std.proofs.lemmas.Iterator.{YieldsList-from_range}
+use Rattle.std.proofs.lemmas.Iterator.Consumers.{YieldsList-from_filter, fold_from_yields_List}
 use Rattle.table.specs.Ranks.{price_of}
 use Rattle.spanning.specs.Sets.{held}
-use Rattle.ranking.proofs.TotalSums.{added_first, added_next, added_last}
+use Rattle.ranking.proofs.TotalSums.{added_range}
 use Rattle.ranking.proofs.totals.add_range.Goals as goal
-
-pub loop-number-init : goal.loop-number-init
-loop-number-init g c =
-    let o = g.K.PriceKind.operations in
-    added_first o c.args.amount (price_of o (g.L.LinkTable.meaning c.args.table.now)) c.args.low (held c.args.tree.now)
-
-pub loop-number-preserved : goal.loop-number-preserved
-loop-number-preserved g c =
-    let o = g.K.PriceKind.operations in
-    added_next o c.args.amount (price_of o (g.L.LinkTable.meaning c.args.table.now)) c.args.low c.loop-number.number (held c.args.tree.now) c.loop-number.total c.add_link-total.result c.loop-number.auto.number c.loop-number.invariant c.add_link-total.ensures
 
 pub returns : goal.returns
 returns g c =
     let o = g.K.PriceKind.operations in
-    added_last o c.args.amount (price_of o (g.L.LinkTable.meaning c.args.table.now)) c.args.low c.loop-number.number c.args.high (held c.args.tree.now) c.loop-number.total c.requires.0 (c.loop-number.auto.number-end c.requires.0) c.loop-number-test.false c.loop-number.invariant
+    let price = price_of o (g.L.LinkTable.meaning c.args.table.now) in
+    let low = c.args.numbers.start in
+    let high = c.args.numbers.end in
+    let X = held c.args.tree.now in
+    fold_from_yields_List _ (λ total k. o.added total (price k)) c.args.amount c.fold.result c.fold.ensures.ran
+    (YieldsList-from_filter _ X (YieldsList-from_range low high (high - low) c.filter.ensures.source refl) c.filter.ensures.closure (λ x r q k. search (rules, tests)))
+    (λ a x b q k. search (rules, tests))
+    ∙ added_range o c.args.amount price low high X c.requires.ordered

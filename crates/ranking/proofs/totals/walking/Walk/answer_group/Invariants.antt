@@ -1,10 +1,11 @@
-use Rattle.ranking.specs.Totals.{fits_in}
-use Rattle.ranking.proofs.SwapGroups.{upto, Walked}
+use Rattle.std.proofs.Common.{◌≡◌, ℕ, false, length, get_or, Contains}
+use Rattle.ranking.specs.Totals.{swap_of, fits_in}
 use Rattle.ranking.proofs.totals.walking.Walk.answer_group.Given as goal
 
--- the links of the group above the one that is next are answered, and no others
-abbrev pub invariant-loop-at : goal.invariant-loop-at
-invariant-loop-at g l = Walked l.self.swaps.now l.gone (fits_in g.K.PriceKind.operations (g.L.LinkTable.meaning l.self.table.now) l.stays l.self.budget) l.initial.fits l.at l.fits
-
-abbrev pub decreases-loop-at : goal.decreases-loop-at
-decreases-loop-at g l = upto l.at
+-- the links so far are answered, and no others
+abbrev pub invariant-loop-number : goal.invariant-loop-number
+invariant-loop-number g l = record {
+  long : length l.fits ≡ 2048;
+  done : (e : ℕ) → Contains l.yielded e → get_or l.fits e false ≡ fits_in g.K.PriceKind.operations (g.L.LinkTable.meaning l.self.table.now) l.stays l.self.budget (swap_of l.self.swaps.now e);
+  rest : (e : ℕ) → (Contains l.yielded e → ⊥) → get_or l.fits e false ≡ get_or l.initial.fits e false;
+}

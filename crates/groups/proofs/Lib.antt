@@ -1,0 +1,3 @@
+pub mod ChainItems
+pub mod Putting
+pub mod Walks
