@@ -6,17 +6,20 @@ use Rattle.std.proofs.lemmas.List.{take_more, take_all}
 use Rattle.spanning.specs.Closure.{share_label}
 use Rattle.spanning.specs.Roots.{root_of, Represents}
 use Rattle.spanning.specs.Sets.{with_link}
-use Rattle.spanning.specs.Trees.{Ranked, Ordered, prior}
+use Rattle.spanning.specs.Trees.{prior}
 use Rattle.spanning.proofs.Subsets.{or_left, or_right, or_cases, and_both, and_left, and_right, not_from, not_to, same_or, same_test, with_old, with_new, with_cases, Within}
 use Rattle.table.specs.Verdicts.{lowest}
 use Rattle.table.proofs.Judged.{Found, search_lowest}
 use Rattle.table.proofs.Judged.Found.{some, none}
+use Rattle.forest.specs.declared.growing.Grower.{Grower}
 use Rattle.forest.specs.declared.networks.Network.{Network}
-use Rattle.forest.specs.Growing.{kept_of, free_of, usable_of, spanned_by, kept_below, is_cut, tree_of, joined_to, GrownTo, KeptTo}
+use Rattle.forest.specs.declared.networks.ends.Ends.{Ends}
+use Rattle.forest.specs.Growing.{kept_of, free_of, usable_of, spanned_by, kept_below, is_cut, tree_of, joined_to, FreeInOrder, GrownTo, KeptTo}
 use Rattle.forest.specs.Merges.{among}
 use Rattle.spanning.specs.Sets.{held}
-use Rattle.forest.specs.Readings.{links_of}
-use Rattle.forest.proofs.GrowSteps.{is_true, is_false, represents_same, first_in, second_in, kept_in, same_roots}
+use Rattle.forest.specs.Networks.{link_at}
+use Rattle.forest.specs.Readings.{count_of, links_of}
+use Rattle.forest.proofs.GrowSteps.{Joins, is_true, is_false, represents_same, represents_joined, first_in, second_in, kept_in, same_roots}
 use Rattle.forest.proofs.MergeJoins.{among_push}
 use Rattle.forest.proofs.MergePaths.{among_at, place_in_front}
 use Rattle.forest.proofs.NetworkLists.{written, unwritten}
@@ -25,14 +28,14 @@ use Rattle.forest.proofs.NetworkLists.{written, unwritten}
 pub among_next : (xs : List ℕ) (i k : ℕ) → i < length xs → among (take (i + 1) xs) k ≡ with_link (among (take i xs)) (get_or xs i 0) k
 among_next xs i k l = ap (λ ys. among ys k) (take_more xs i 0 l) ∙ among_push (take i xs) (get_or xs i 0) k
 
-module _ (n : Network) (order : List ℕ) (before : ℕ → ℕ → Bool) (ranked : Ranked n.count (kept_of n) (free_of n) before) (ordered : Ordered (free_of n) before order) where
+module _ (n : Network) (order : List ℕ) (before : ℕ → ℕ → Bool) (listed : FreeInOrder n before order) where
   -- what ranks before a link of the order is what stands before it
   module _ (i : ℕ) (within : i < length order) where
     abbrev l : ℕ
     l = get_or order i 0
 
     free_l : T (free_of n l)
-    free_l = ordered.each i within
+    free_l = listed.ordered.each i within
 
     prior_to : Within (prior (spanned_by n) (kept_of n) (free_of n) before l) (joined_to n order i)
     prior_to k t = elim (or_cases (kept_of n k) (free_of n k && before k l) t) [
@@ -40,12 +43,12 @@ module _ (n : Network) (order : List ℕ) (before : ℕ → ℕ → Bool) (ranke
       | inr v ↦
           let fk = and_left (free_of n k) (before k l) v in
           let bk = and_right (free_of n k) (before k l) v in
-          let at = ordered.all k fk in
+          let at = listed.ordered.all k fk in
           or_right (kept_of n k) (among (take i order) k) (elim (dec_lt at.0 i) [
             | yes less ↦ subst (λ j. T (among (take i order) j)) at.2 (early at.0 less)
             | no less ↦ absurd (elim (same_or at.0 i) [
-              | inl q ↦ ranked.strict l free_l (subst (λ j. T (before j l)) (sym at.2 ∙ ap (λ j. get_or order j 0) q) bk)
-              | inr apart ↦ ranked.strict l free_l (ranked.transitive l k l free_l fk free_l (subst (λ j. T (before l j)) at.2 (ordered.sorted i at.0 (omega arith) at.1)) bk)
+              | inl q ↦ listed.ranked.strict l free_l (subst (λ j. T (before j l)) (sym at.2 ∙ ap (λ j. get_or order j 0) q) bk)
+              | inr apart ↦ listed.ranked.strict l free_l (listed.ranked.transitive l k l free_l fk free_l (subst (λ j. T (before l j)) at.2 (listed.ordered.sorted i at.0 (omega arith) at.1)) bk)
             ])
           ])
     ] where
@@ -65,7 +68,7 @@ module _ (n : Network) (order : List ℕ) (before : ℕ → ℕ → Bool) (ranke
       | inl own ↦ or_left (kept_of n k) (free_of n k && before k l) own
       | inr v ↦
           let p = place_in_front order i k v in
-          or_right (kept_of n k) (free_of n k && before k l) (and_both (free_of n k) (before k l) (subst (λ j. T (free_of n j)) p.is (ordered.each p.at p.within)) (subst (λ j. T (before j l)) p.is (ordered.sorted p.at i p.early within)))
+          or_right (kept_of n k) (free_of n k && before k l) (and_both (free_of n k) (before k l) (subst (λ j. T (free_of n j)) p.is (listed.ordered.each p.at p.within)) (subst (λ j. T (before j l)) p.is (listed.ordered.sorted p.at i p.early within)))
     ]
 
     -- so the link is in the tree exactly if its ends have two roots
@@ -73,7 +76,7 @@ module _ (n : Network) (order : List ℕ) (before : ℕ → ℕ → Bool) (ranke
       pub fresh_is : not (eqb (root_of ps ((links_of n).first l)) (root_of ps ((links_of n).second l))) ≡ tree_of n before l
       fresh_is =
           ap not (same_roots ps n (prior (spanned_by n) (kept_of n) (free_of n) before l) long (represents_same ps (links_of n) (joined_to n order i) (prior (spanned_by n) (kept_of n) (free_of n) before l) to_prior prior_to rep) ((links_of n).first l) ((links_of n).second l) (first_in n l) (second_in n l))
-          ∙ sym (loose (kept_of n l) (free_of n l) (not (spanned_by n (prior (spanned_by n) (kept_of n) (free_of n) before l) l)) (λ own. ranked.apart l own free_l) free_l) where
+          ∙ sym (loose (kept_of n l) (free_of n l) (not (spanned_by n (prior (spanned_by n) (kept_of n) (free_of n) before l) l)) (λ own. listed.ranked.apart l own free_l) free_l) where
             loose : (a b c : Bool) → (T a → ⊥) → T b → (a || (b && c)) ≡ c
             loose true b c na tb = absurd (na tt)
             loose false true c na tb = refl
@@ -103,59 +106,70 @@ module _ (n : Network) (order : List ℕ) (before : ℕ → ℕ → Bool) (ranke
   here_among : (i : ℕ) → i < length order → T (among (take (i + 1) order) (get_or order i 0))
   here_among i within = subst T (sym (among_next order i (get_or order i 0) within)) (with_new (among (take i order)) (get_or order i 0))
 
-  -- a link that joined two parts is put into the tree
-  pub grown_in : (i : ℕ) (ps ps' : List ℕ) (tree : List Bool) → i < length order → get_or order i 0 < length tree → length ps ≡ 1024 → GrownTo n order before i ps tree → T (not (eqb (root_of ps ((links_of n).first (get_or order i 0))) (root_of ps ((links_of n).second (get_or order i 0))))) → Represents ps' (links_of n) (with_link (joined_to n order i) (get_or order i 0)) → GrownTo n order before (i + 1) ps' (set tree (get_or order i 0) true)
-  grown_in i ps ps' tree within room long so_far fresh rep =
-      let l = get_or order i 0 in
-      record {
-        parts = represents_same ps' (links_of n) (with_link (joined_to n order i) l) (joined_to n order (i + 1)) (next_set i within ps long so_far.parts) (set_next i within ps long so_far.parts) rep;
-        bits = λ k. elim (same_or k l) [
-          | inl q ↦ written tree l true false room k q ∙ sym (is_true (kept_of n k || (among (take (i + 1) order) k && tree_of n before k)) (or_right (kept_of n k) (among (take (i + 1) order) k && tree_of n before k) (subst (λ j. T (among (take (i + 1) order) j && tree_of n before j)) (sym q) (and_both (among (take (i + 1) order) l) (tree_of n before l) (here_among i within) (subst T (fresh_is i within ps long so_far.parts) fresh)))))
-          | inr apart ↦ unwritten tree l true false room k apart ∙ bit_at tree i k within (so_far.bits k) apart
-        ];
-      }
+  module _ (i : ℕ) (g h : Grower) (link : Ends) (within : i < length order) (at : link ≡ link_at n.links.items (get_or order i 0)) (joined : Joins g.parts.parents h.parts.parents link.first link.second) (so_far : GrownTo n order before i g) where
+    abbrev next : ℕ
+    next = get_or order i 0
 
-  -- and another is not
-  pub grown_out : (i : ℕ) (ps ps' : List ℕ) (tree : List Bool) → i < length order → length ps ≡ 1024 → GrownTo n order before i ps tree → (T (not (eqb (root_of ps ((links_of n).first (get_or order i 0))) (root_of ps ((links_of n).second (get_or order i 0))))) → ⊥) → Represents ps' (links_of n) (with_link (joined_to n order i) (get_or order i 0)) → GrownTo n order before (i + 1) ps' tree
-  grown_out i ps ps' tree within long so_far stale rep =
-      let l = get_or order i 0 in
-      record {
-        parts = represents_same ps' (links_of n) (with_link (joined_to n order i) l) (joined_to n order (i + 1)) (next_set i within ps long so_far.parts) (set_next i within ps long so_far.parts) rep;
-        bits = λ k. elim (same_or k l) [
-          | inl q ↦
-              let out : tree_of n before l ≡ false = sym (fresh_is i within ps long so_far.parts) ∙ is_false (not (eqb (root_of ps ((links_of n).first l)) (root_of ps ((links_of n).second l)))) stale in
-              let out-k : tree_of n before k ≡ false = ap (tree_of n before) q ∙ out in
-              so_far.bits k ∙ ap (λ b. kept_of n k || (among (take i order) k && b)) out-k ∙ ap (λ b. kept_of n k || b) (and_no (among (take i order) k) (among (take (i + 1) order) k)) ∙ sym (ap (λ b. kept_of n k || (among (take (i + 1) order) k && b)) out-k)
-          | inr apart ↦ bit_at tree i k within (so_far.bits k) apart
-        ];
-      } where
-        and_no : (a b : Bool) → (a && false) ≡ (b && false)
-        and_no true true = refl
-        and_no true false = refl
-        and_no false true = refl
-        and_no false false = refl
+    abbrev fresh : Bool
+    fresh = not (eqb (root_of g.parts.parents link.first) (root_of g.parts.parents link.second))
+
+    fresh_in_tree : fresh ≡ tree_of n before next
+    fresh_in_tree = ap (λ l. not (eqb (root_of g.parts.parents l.first) (root_of g.parts.parents l.second))) at ∙ fresh_is i within g.parts.parents g.parts.long so_far.parts
+
+    next_parts : Represents h.parts.parents (links_of n) (joined_to n order (i + 1))
+    next_parts =
+        represents_same h.parts.parents (links_of n) (with_link (joined_to n order i) next) (joined_to n order (i + 1)) (next_set i within g.parts.parents g.parts.long so_far.parts) (set_next i within g.parts.parents g.parts.long so_far.parts)
+        (represents_joined n (joined_to n order i) next link g.parts.parents h.parts.parents at joined so_far.parts)
+
+    -- a link that joined two parts is put into the tree
+    pub grown_in : next < length g.tree → T fresh → h.tree ≡ set g.tree next true → GrownTo n order before (i + 1) h
+    grown_in room joins marked = record {
+      parts = next_parts;
+      bits = λ k. ap (λ bits. held bits k) marked ∙ (elim (same_or k next) [
+        | inl q ↦ written g.tree next true false room k q ∙ sym (is_true (kept_of n k || (among (take (i + 1) order) k && tree_of n before k)) (or_right (kept_of n k) (among (take (i + 1) order) k && tree_of n before k) (subst (λ j. T (among (take (i + 1) order) j && tree_of n before j)) (sym q) (and_both (among (take (i + 1) order) next) (tree_of n before next) (here_among i within) (subst T fresh_in_tree joins)))))
+        | inr apart ↦ unwritten g.tree next true false room k apart ∙ bit_at g.tree i k within (so_far.bits k) apart
+      ]);
+    }
+
+    -- and another is not
+    pub grown_out : (T fresh → ⊥) → h.tree ≡ g.tree → GrownTo n order before (i + 1) h
+    grown_out stale same = record {
+      parts = next_parts;
+      bits = λ k. ap (λ bits. held bits k) same ∙ (elim (same_or k next) [
+        | inl q ↦
+            let out : tree_of n before next ≡ false = sym fresh_in_tree ∙ is_false fresh stale in
+            let out-k : tree_of n before k ≡ false = ap (tree_of n before) q ∙ out in
+            so_far.bits k ∙ ap (λ b. kept_of n k || (among (take i order) k && b)) out-k ∙ ap (λ b. kept_of n k || b) (and_no (among (take i order) k) (among (take (i + 1) order) k)) ∙ sym (ap (λ b. kept_of n k || (among (take (i + 1) order) k && b)) out-k)
+        | inr apart ↦ bit_at g.tree i k within (so_far.bits k) apart
+      ]);
+    } where
+      and_no : (a b : Bool) → (a && false) ≡ (b && false)
+      and_no true true = refl
+      and_no true false = refl
+      and_no false true = refl
+      and_no false false = refl
 
   -- at the end
   all_free_lem : (k : ℕ) → among (take (length order) order) k ≡ free_of n k
   all_free_lem k = same_test (among (take (length order) order) k) (free_of n k)
-      (λ u. let p = place_in_front order (length order) k u in subst (λ j. T (free_of n j)) p.is (ordered.each p.at p.within))
-      (λ u. let at = ordered.all k u in subst (λ xs. T (among xs k)) (sym (take_all (length order) order (omega arith))) (subst (λ j. T (among order j)) at.2 (among_at order at.0 at.1)))
+      (λ u. let p = place_in_front order (length order) k u in subst (λ j. T (free_of n j)) p.is (listed.ordered.each p.at p.within))
+      (λ u. let at = listed.ordered.all k u in subst (λ xs. T (among xs k)) (sym (take_all (length order) order (omega arith))) (subst (λ j. T (among order j)) at.2 (among_at order at.0 at.1)))
 
-  pub grown_tree : (ps : List ℕ) (tree : List Bool) → GrownTo n order before (length order) ps tree → (k : ℕ) → held tree k ≡ tree_of n before k
-  grown_tree ps tree end k = end.bits k ∙ ap (λ b. kept_of n k || (b && tree_of n before k)) (all_free_lem k) ∙ absorb (kept_of n k) (free_of n k) (not (spanned_by n (prior (spanned_by n) (kept_of n) (free_of n) before k) k)) where
+  pub grown_tree : (g : Grower) → GrownTo n order before (length order) g → (k : ℕ) → held g.tree k ≡ tree_of n before k
+  grown_tree g end k = end.bits k ∙ ap (λ b. kept_of n k || (b && tree_of n before k)) (all_free_lem k) ∙ absorb (kept_of n k) (free_of n k) (not (spanned_by n (prior (spanned_by n) (kept_of n) (free_of n) before k) k)) where
     absorb : (a b c : Bool) → (a || (b && (a || (b && c)))) ≡ (a || (b && c))
     absorb true b c = refl
     absorb false true c = refl
     absorb false false c = refl
 
-  pub grown_parts : (ps : List ℕ) (tree : List Bool) → GrownTo n order before (length order) ps tree → Represents ps (links_of n) (usable_of n)
-  grown_parts ps tree end = represents_same ps (links_of n) (joined_to n order (length order)) (usable_of n) (λ k u. subst T (ap (λ b. kept_of n k || b) (all_free_lem k)) u) (λ k u. subst T (sym (ap (λ b. kept_of n k || b) (all_free_lem k))) u) end.parts
+  pub grown_parts : (g : Grower) → GrownTo n order before (length order) g → Represents g.parts.parents (links_of n) (usable_of n)
+  grown_parts g end = represents_same g.parts.parents (links_of n) (joined_to n order (length order)) (usable_of n) (λ k u. subst T (ap (λ b. kept_of n k || b) (all_free_lem k)) u) (λ k u. subst T (sym (ap (λ b. kept_of n k || b) (all_free_lem k))) u) end.parts
 
 -- from the kept links on
-pub grown_none : (n : Network) (order : List ℕ) (before : ℕ → ℕ → Bool) (ps : List ℕ) (tree : List Bool) (ring : Option ℕ) → KeptTo n n.count ps tree ring → GrownTo n order before 0 ps tree
-grown_none n order before ps tree ring end = record {
-  parts = represents_same ps (links_of n) (kept_below n n.count) (joined_to n order 0) (λ k u. or_left (kept_of n k) (among (take 0 order) k) (and_left (kept_of n k) (ltb k n.count) u)) (λ k u. elim (or_cases (kept_of n k) (among (take 0 order) k) u) [ inl own ↦ and_both (kept_of n k) (ltb k n.count) own (lt→ltb k n.count (kept_in n k own)) | inr v ↦ absurd v ]) end.parts;
-  bits = λ k. end.bits k ∙ both (kept_of n k) (ltb k n.count) (λ own. lt→ltb k n.count (kept_in n k own));
+pub grown_none : (n : Network) (order : List ℕ) (before : ℕ → ℕ → Bool) (g : Grower) → KeptTo n (count_of n) g → GrownTo n order before 0 g
+grown_none n order before g end = record {
+  parts = represents_same g.parts.parents (links_of n) (kept_below n (count_of n)) (joined_to n order 0) (λ k u. or_left (kept_of n k) (among (take 0 order) k) (and_left (kept_of n k) (ltb k (count_of n)) u)) (λ k u. elim (or_cases (kept_of n k) (among (take 0 order) k) u) [ inl own ↦ and_both (kept_of n k) (ltb k (count_of n)) own (lt→ltb k (count_of n) (kept_in n k own)) | inr v ↦ absurd v ]) end.parts;
+  bits = λ k. end.bits k ∙ both (kept_of n k) (ltb k (count_of n)) (λ own. lt→ltb k (count_of n) (kept_in n k own));
 } where
   both : (a b : Bool) → (T a → T b) → (a && b) ≡ (a || false)
   both true true h = refl
@@ -180,13 +194,13 @@ lowest_none m P no_one = by (lowest m P) (search_lowest m P) where
 
 -- the cut, by roots
 module _ (n : Network) (ps : List ℕ) (long : length ps ≡ 1024) (rep : Represents ps (links_of n) (usable_of n)) (root-0 : ◌≡◌ {A = ℕ} (root_of ps 0) 0) where
-  joined_by_root : (x : ℕ) → x < n.points → eqb 0 (root_of ps x) ≡ share_label (links_of n) n.count (usable_of n) 0 x
+  joined_by_root : (x : ℕ) → x < n.points → eqb 0 (root_of ps x) ≡ share_label (links_of n) (count_of n) (usable_of n) 0 x
   joined_by_root x l = ap (λ r. eqb r (root_of ps x)) (sym root-0) ∙ same_roots ps n (usable_of n) long rep 0 x (let f = n.few in omega arith) (let f = n.few in omega arith)
 
   pub cut_here : (x : ℕ) → x < n.points → (root_of ps x ≡ 0 → ⊥) → ((z : ℕ) → z < x → root_of ps z ≡ 0) → Some x ≡ lowest n.points (is_cut n)
   cut_here x l apart below = lowest_is n.points (is_cut n) x l
-      (not_from (share_label (links_of n) n.count (usable_of n) 0 x) (λ u. apart (sym (eqb→eq 0 (root_of ps x) (subst T (sym (joined_by_root x l)) u)))))
-      (λ j less u. not_to (share_label (links_of n) n.count (usable_of n) 0 j) u (subst T (joined_by_root j (omega arith)) (subst (λ r. T (eqb 0 r)) (sym (below j less)) (eqb_refl 0))))
+      (not_from (share_label (links_of n) (count_of n) (usable_of n) 0 x) (λ u. apart (sym (eqb→eq 0 (root_of ps x) (subst T (sym (joined_by_root x l)) u)))))
+      (λ j less u. not_to (share_label (links_of n) (count_of n) (usable_of n) 0 j) u (subst T (joined_by_root j (omega arith)) (subst (λ r. T (eqb 0 r)) (sym (below j less)) (eqb_refl 0))))
 
   pub no_cut : ((z : ℕ) → z < n.points → root_of ps z ≡ 0) → None ≡ lowest n.points (is_cut n)
-  no_cut all = lowest_none n.points (is_cut n) (λ j less u. not_to (share_label (links_of n) n.count (usable_of n) 0 j) u (subst T (joined_by_root j less) (subst (λ r. T (eqb 0 r)) (sym (all j less)) (eqb_refl 0))))
+  no_cut all = lowest_none n.points (is_cut n) (λ j less u. not_to (share_label (links_of n) (count_of n) (usable_of n) 0 j) u (subst T (joined_by_root j less) (subst (λ r. T (eqb 0 r)) (sym (all j less)) (eqb_refl 0))))

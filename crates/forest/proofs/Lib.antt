@@ -1,5 +1,4 @@
 pub mod NetworkLists
-pub mod NetworkReads
 pub mod MergeRoots
 pub mod MergeHanging
 pub mod MergeJoins
@@ -8,14 +7,16 @@ pub mod MergeWalks
 pub mod MergeLast
 pub mod MergePaths
 pub mod RootEnds
-pub mod RootHalves
 pub mod RootCount
+pub mod RootPlaces
+pub mod RootLinks
 pub mod RootWalk
 pub mod RootSweep
 pub mod RootedTrees
 pub mod ReplacParts
 pub mod ReplacCover
 pub mod GrowSteps
+pub mod Arrays
 pub mod GrowOrder
 pub mod PathJoins
 pub mod PathLast

@@ -1,6 +1,7 @@
 -- Roots tell which points the links joined so far join.
-use Rattle.std.proofs.Common.{◌≡◌, ℕ, zero, suc, ◌<◌, ◌≤◌, Bool, true, false, ◌||◌, T, eqb, ◌⊎◌, List, [], ◌∷◌, ◌++◌, take, sym, refl, ap, ◌∙◌, subst, inl, inr, arith}
-use Rattle.forest.specs.Merges.{among, root_after}
+use Rattle.std.proofs.Common.{◌≡◌, ℕ, ◌<◌, Bool, true, false, ◌||◌, T, eqb, ◌⊎◌, List, [], ◌∷◌, ◌++◌, length, take, sym, refl, ap, ◌∙◌, subst, inl, inr, arith}
+use Rattle.forest.specs.declared.merges.Merges.{Merges}
+use Rattle.forest.specs.Merges.{among, hang_of, joins_of, root_after, Remembers}
 use Rattle.spanning.specs.Joined.{Graph, Joined}
 use Rattle.spanning.specs.Joined.Joined.{same, forth, back}
 use Rattle.spanning.specs.Sets.{with_link}
@@ -97,11 +98,9 @@ none_joined g x y (forth w e t d) = absurd t
 none_joined g x y (back w e t d) = absurd t
 
 -- before the first join
-module _ (ps ts : List ℕ) (g : Graph) where
-  pub one_at_first : (t x y : ℕ) → t ≤ 0 → root_after ps ts t x ≡ root_after ps ts t y → Joined g (among (take t [])) x y
-  one_at_first zero x y l q = subst (λ z. Joined g (among []) x z) q (same x)
-  one_at_first (suc t) x y l q = absurd (omega arith)
-
-  pub met_at_first : (t x y : ℕ) → t ≤ 0 → Joined g (among (take t [])) x y → root_after ps ts t x ≡ root_after ps ts t y
-  met_at_first zero x y l d = none_joined g x y d
-  met_at_first (suc t) x y l d = absurd (omega arith)
+pub remembers_none : (m : Merges) (g : Graph) → joins_of m ≡ [] → Remembers m g
+remembers_none m g none = record {
+  ends = λ k t. absurd (subst (λ js. T (among js k)) none t);
+  one_root = λ t x y l lx ly q. (let z : t ≡ 0 = omega (arith, ap length none) in let e : x ≡ y = subst (λ s. root_after (hang_of m) s x ≡ root_after (hang_of m) s y) z q in subst (λ y'. Joined g (among (take t (joins_of m))) x y') e (same x));
+  roots_met = λ t x y l lx ly d. ap (root_after (hang_of m) t) (none_joined g x y (along g (take t (joins_of m)) [] (let z : t ≡ 0 = omega (arith, ap length none) in ap (λ s. take s (joins_of m)) z) x y d));
+}

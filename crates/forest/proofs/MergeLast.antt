@@ -1,26 +1,21 @@
 -- What two walks up tell of the last join that two points needed.
-use Rattle.std.proofs.Common.{◌≡◌, ℕ, suc, ◌+◌, ◌-◌, ◌<◌, ◌≤◌, ◌⊎◌, get_or, inl, inr, arith}
-use Rattle.std.proofs.lemmas.List.{length-take-le, get_or-take}
+use Rattle.std.proofs.Common.{◌≡◌, ℕ, suc, ◌+◌, ◌<◌, ◌⊎◌, get_or, Some, None, Option, sym, refl, ap, ◌∙◌, inl, inr, arith}
+use Rattle.forest.specs.declared.merges.Hang.{Hang}
 use Rattle.forest.specs.declared.merges.Merges.{Merges}
-use Rattle.forest.specs.Merges.{among, joins_of, Remembers, LastJoin}
-use Rattle.forest.proofs.MergeHanging.{hung_early}
+use Rattle.forest.specs.Merges.{among, hang_of, joins_of, join_count, NoLater, Remembers, LastJoin}
 use Rattle.forest.proofs.MergeNext.{met_in_all}
-use Rattle.forest.proofs.MergeWalks.{Walked, step_a, step_b, never, meets, earlier_hung, ends_of}
+use Rattle.forest.proofs.MergeRoots.{Stands, hangs_nowhere, hangs_once, to_go, goes_up}
+use Rattle.forest.proofs.MergeWalks.{Climbed, walked_in_order, step, never, meets, ends_of}
 use Rattle.spanning.specs.Joined.{Graph, Joined}
 use Rattle.spanning.proofs.Subsets.{same_or}
 
-sum_less_left : (t u r n : ℕ) → n ≤ 1024 → t < n → t < u → (65535 - u) + r < (65535 - t) + r
-sum_less_left t u r n few early up = omega arith
-
-sum_less_right : (t u r n : ℕ) → n ≤ 1024 → t < n → t < u → r + (65535 - u) < r + (65535 - t)
-sum_less_right t u r n few early up = omega arith
+-- the parent of a point has fewer joins to go
+pub fewer : (m : Merges) (a : ℕ) (h : Hang) → hang_of m a ≡ Some h → to_go (join_count m) (hang_of m h.parent) < to_go (join_count m) (hang_of m a)
+fewer m a h is = let up = goes_up (join_count m) h (hang_of m h.parent) (m.hung_by_join a h is) (λ above at. m.rises a h above is at) in omega (arith, ap (to_go (join_count m)) is)
 
 module _ (m : Merges) where
-  abbrev Reached : ℕ → ℕ → ℕ → ℕ → ℕ → Type 0
-  Reached x y a b last = Walked m.parents m.times m.count x y a b last
-
-  few : m.count ≤ 1024
-  few = omega (arith, m.counted)
+  abbrev pub Reached : ℕ → ℕ → ℕ → ℕ → Option ℕ → Type 0
+  Reached x y a b last = Climbed (hang_of m) (join_count m) x y a b last
 
   -- a number past the points is joined to no other
   pub none_past : (g : Graph) → Remembers m g → (x y : ℕ) → ((x < 1024) × (y < 1024) → ⊥) → (x ≡ y) ⊎ (Joined g (among (joins_of m)) x y → ⊥)
@@ -29,39 +24,37 @@ module _ (m : Merges) where
     | inr other ↦ inr (λ d. elim (ends_of g (among (joins_of m)) told.ends x y d) [ inl q ↦ other q | inr within ↦ past within ])
   ]
 
-  module _ (x y a b last : ℕ) (w : Reached x y a b last) where
-    pub passed_a : (a ≡ b → ⊥) → get_or m.times a 0 ≤ get_or m.times b 0 → (get_or m.times a 0 ≡ 65535 → ⊥) → Reached x y (get_or m.parents a 0) b (get_or m.times a 0)
-    passed_a other first hung = step_a m.parents m.times m.count m.below m.rises x y a b last w other first (hung_early m.times m.count a w.in_a m.hung_before hung)
+  -- of two points reached, the one that was hung first goes up
+  module _ (x y a b low high : ℕ) (last : Option ℕ) (r : Reached x y a b last) (other : a ≡ b → ⊥) (both : ((low ≡ a) × (high ≡ b)) ⊎ ((low ≡ b) × (high ≡ a))) (order : NoLater (hang_of m low) (hang_of m high)) where
+    apart : low ≡ high → ⊥
+    apart q = elim both [ inl p ↦ other (sym p.0 ∙ q ∙ p.1) | inr p ↦ other (sym p.1 ∙ sym q ∙ p.0) ]
 
-    pub passed_b : (a ≡ b → ⊥) → get_or m.times b 0 < get_or m.times a 0 → Reached x y a (get_or m.parents b 0) (get_or m.times b 0)
-    passed_b other first = step_b m.parents m.times m.count m.below m.rises x y a b last w other (omega arith) (earlier_hung m.times m.count b a w.in_b w.in_a m.hung_before few first)
+    later : (h : Hang) → hang_of m low ≡ Some h → Stands (hang_of m) h.join high
+    later h is g at = let o = order g at in omega (arith, o.2, hangs_once (hang_of m low) h o.0 is o.1)
 
-    pub not_joined : (g : Graph) → Remembers m g → x < 1024 → y < 1024 → (a ≡ b → ⊥) → get_or m.times a 0 ≤ get_or m.times b 0 → get_or m.times a 0 ≡ 65535 → Joined g (among (joins_of m)) x y → ⊥
-    not_joined g told lx ly other first root d =
-        let short = few in
-        never m.parents m.times m.count x y a b last w other (omega arith) (omega arith) (met_in_all m g told x y lx ly d)
+    pub passed : (h : Hang) → hang_of m low ≡ Some h → Reached x y h.parent high (Some h.join)
+    passed h is =
+        let w = walked_in_order (hang_of m) (join_count m) x y a b low high last r other both in
+        step (hang_of m) (join_count m) m.hung_by_join m.rises x y low high w.0 h w.1 apart is (later h is)
 
-    pub last_join : (g : Graph) → Remembers m g → x < 1024 → y < 1024 → a ≡ b → LastJoin g (joins_of m) x y (get_or m.links last 0)
-    last_join g told lx ly q =
-        let early = w.passed q in
-        let long = length-take-le m.count m.links (omega (arith, few, m.long_links)) in
-        record {
-          number = last;
-          within = omega arith;
-          is = get_or-take m.count m.links last 0 early;
-          then = told.one_root (suc last) x y (omega arith) lx ly (meets m.parents m.times m.count x y a b last w q);
-          not_before = λ d. w.apart (told.roots_met last x y (omega arith) lx ly d);
-        }
+    pub not_joined : (g : Graph) → Remembers m g → x < 1024 → y < 1024 → hang_of m low ≡ None → Joined g (among (joins_of m)) x y → ⊥
+    not_joined g told lx ly root d =
+        let w = walked_in_order (hang_of m) (join_count m) x y a b low high last r other both in
+        let no_low : (h : Hang) → hang_of m low ≡ Some h → ⊥ = λ h is. hangs_nowhere (hang_of m low) h root is in
+        never (hang_of m) (join_count m) x y low high w.0 w.1 apart no_low (λ h is. (let o = order h is in no_low o.0 o.1)) (met_in_all m g told x y lx ly d)
 
-    -- what is left of the times falls
-    pub falls_a : (get_or m.times a 0 ≡ 65535 → ⊥) → (65535 - get_or m.times (get_or m.parents a 0) 0) + (65535 - get_or m.times b 0) < (65535 - get_or m.times a 0) + (65535 - get_or m.times b 0)
-    falls_a hung =
-        let early = hung_early m.times m.count a w.in_a m.hung_before hung in
-        let up = m.rises a w.in_a early in
-        sum_less_left (get_or m.times a 0) (get_or m.times (get_or m.parents a 0) 0) (65535 - get_or m.times b 0) m.count few early up
+    -- on the way up the joins that are left are fewer
+    pub falls : (h : Hang) → hang_of m low ≡ Some h → to_go (join_count m) (hang_of m h.parent) + to_go (join_count m) (hang_of m high) < to_go (join_count m) (hang_of m a) + to_go (join_count m) (hang_of m b)
+    falls h is = let less = fewer m low h is in elim both [
+      | inl p ↦ omega (arith, ap (λ v. to_go (join_count m) (hang_of m v)) p.0, ap (λ v. to_go (join_count m) (hang_of m v)) p.1)
+      | inr p ↦ omega (arith, ap (λ v. to_go (join_count m) (hang_of m v)) p.0, ap (λ v. to_go (join_count m) (hang_of m v)) p.1)
+    ]
 
-    pub falls_b : get_or m.times b 0 < get_or m.times a 0 → (65535 - get_or m.times a 0) + (65535 - get_or m.times (get_or m.parents b 0) 0) < (65535 - get_or m.times a 0) + (65535 - get_or m.times b 0)
-    falls_b first =
-        let early = earlier_hung m.times m.count b a w.in_b w.in_a m.hung_before few first in
-        let up = m.rises b w.in_b early in
-        sum_less_right (get_or m.times b 0) (get_or m.times (get_or m.parents b 0) 0) (65535 - get_or m.times a 0) m.count few early up
+  pub last_join : (x y a b last : ℕ) → Reached x y a b (Some last) → (g : Graph) → Remembers m g → x < 1024 → y < 1024 → a ≡ b → LastJoin g (joins_of m) x y (get_or (joins_of m) last 0)
+  last_join x y a b last r g told lx ly q = record {
+    number = last;
+    within = r.1;
+    is = refl;
+    then = told.one_root (suc last) x y r.1 lx ly (meets (hang_of m) (join_count m) x y a b last r.0 q);
+    not_before = λ d. r.0.apart (told.roots_met last x y (omega (arith, r.1)) lx ly d);
+  }

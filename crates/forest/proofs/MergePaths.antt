@@ -1,16 +1,14 @@
 -- The last join that two points needed is the last link on the path between them.
-use Rattle.std.proofs.Common.{◌≡◌, ℕ, zero, suc, ◌<◌, ◌≤◌, Bool, T, eqb, List, [], ◌∷◌, ◌++◌, length, get_or, take, sym, refl, ap, ◌∙◌, subst, inl, inr, arith, eqb→eq, take-suc}
+use Rattle.std.proofs.Common.{◌≡◌, ℕ, zero, suc, ◌<◌, ◌≤◌, Bool, T, eqb, List, [], ◌∷◌, length, get_or, take, sym, refl, ap, ◌∙◌, subst, inl, inr, arith, eqb→eq, take-suc}
 use native.Mathlib.Decide.{dec_lt}
 use lib.Dec.{eqb_refl}
-use Rattle.std.proofs.lemmas.List.{length-take, get_or-take, length_push, get_or_push, get_or_append_left}
-use Rattle.forest.specs.Merges.{among, Sole, LastJoin}
+use Rattle.std.proofs.lemmas.List.{length-take, get_or-take}
+use Rattle.forest.specs.Merges.{among, Sole}
 use Rattle.forest.proofs.MergeJoins.{among_push}
-use Rattle.spanning.specs.Closure.{Closure, Finite, share_label}
-use Rattle.spanning.specs.Joined.{Graph}
+use Rattle.spanning.specs.Closure.{Closure}
 use Rattle.spanning.specs.Sets.{with_link, without_link}
 use Rattle.spanning.specs.Trees.{Independent, OnPath}
-use Rattle.spanning.proofs.LabelsDecide.{joined_is, is_joined, graph_closure}
-use Rattle.spanning.proofs.Greedy.{more, add_one}
+use Rattle.spanning.proofs.Greedy.{more}
 use Rattle.spanning.proofs.Subsets.{or_left, or_right, or_cases, with_cases, without_in, Within}
 
 -- a link of a list has a place in it
@@ -98,38 +96,3 @@ module _ (in_span : (ℕ → Bool) → ℕ → Bool) (c : Closure in_span) (kept
             absurd (path.2 (subst (λ j. T (in_span (without_link X j) e)) p.is off))
         | no early ↦ (p.at, omega arith, p.is)
       ]
-
--- a list grows by a link that it does not span
-pub independent_push : (in_span : (ℕ → Bool) → ℕ → Bool) → Closure in_span → (kept free : ℕ → Bool) (before : ℕ → ℕ → Bool) (js : List ℕ) (l : ℕ) → Independent in_span kept free before (among js) → (T (in_span (among js) l) → ⊥) → Independent in_span kept free before (among (js ++ l ∷ []))
-independent_push in_span c kept free before js l alone fresh = add_one in_span c (among js) (among (js ++ l ∷ [])) l (λ k t. subst T (among_push js l k) t) alone fresh
-
-pub sole_push : (js : List ℕ) (l : ℕ) → Sole js → (T (among js l) → ⊥) → Sole (js ++ l ∷ [])
-sole_push js l sole fresh i j less lj e =
-    let long = length_push js l in
-    let early : i < length js = omega arith in
-    let at_i = get_or_append_left js (l ∷ []) 0 i early in
-    elim (dec_lt j (length js)) [
-      | yes inside ↦ sole i j less inside (sym at_i ∙ e ∙ get_or_append_left js (l ∷ []) 0 j inside)
-      | no last ↦
-          let at_j : get_or (js ++ l ∷ []) j 0 ≡ l = get_or_push js l 0 j (omega arith) in
-          fresh (subst (λ k. T (among js k)) (sym at_i ∙ e ∙ at_j) (among_at js i early))
-    ]
-
--- in a graph
-module _ (g : Graph) (n : ℕ) (finite : Finite g n) (kept free : ℕ → Bool) (before : ℕ → ℕ → Bool) (js : List ℕ) (sole : Sole js) (alone : Independent (λ S e. share_label g n S (g.first e) (g.second e)) kept free before (among js)) (e l : ℕ) (last : LastJoin g js (g.first e) (g.second e) l) where
-  abbrev spans_test : (ℕ → Bool) → ℕ → Bool
-  spans_test S k = share_label g n S (g.first k) (g.second k)
-
-  then_spanned : T (spans_test (among (take (suc last.number) js)) e)
-  then_spanned = joined_is g n finite (among (take (suc last.number) js)) (g.first e) (g.second e) last.then
-
-  not_spanned_before : T (spans_test (among (take last.number js)) e) → ⊥
-  not_spanned_before t = last.not_before (is_joined g n finite (among (take last.number js)) (g.first e) (g.second e) t)
-
-  pub last_join_on_path : OnPath spans_test kept free before (among js) e l
-  last_join_on_path =
-      subst (λ k. OnPath spans_test kept free before (among js) e k) last.is
-      (last_on_path_lem spans_test (graph_closure g n finite) kept free before js sole alone e last.number last.within then_spanned not_spanned_before)
-
-  pub none_after_last_join : (f : ℕ) → OnPath spans_test kept free before (among js) e f → (s : ℕ) × (s ≤ last.number) × (get_or js s 0 ≡ f)
-  none_after_last_join = none_later spans_test (graph_closure g n finite) kept free before js sole alone e last.number last.within then_spanned not_spanned_before

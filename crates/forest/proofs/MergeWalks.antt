@@ -1,97 +1,94 @@
 -- Two walks up, from two points until they meet.
-use Rattle.std.proofs.Common.{◌≡◌, ℕ, suc, ◌<◌, ◌≤◌, Bool, T, ◌⊎◌, List, get_or, sym, refl, ap, ◌∙◌, subst, inl, inr, arith}
-use native.Mathlib.Decide.{dec_lt}
+use Rattle.std.proofs.Common.{◌≡◌, ℕ, suc, ◌<◌, ◌≤◌, Bool, T, ◌⊎◌, Some, None, Option, sym, refl, ap, ◌∙◌, subst, inl, inr, arith}
+use Rattle.forest.specs.declared.merges.Hang.{Hang}
 use Rattle.forest.specs.Merges.{root_after}
-use Rattle.forest.proofs.MergeRoots.{own_root, root_of_parent}
+use Rattle.forest.proofs.MergeRoots.{Stands, hangs_once, own_root, root_of_parent}
 use Rattle.spanning.specs.Joined.{Graph, Joined}
 use Rattle.spanning.specs.Joined.Joined.{same, forth, back}
 use Rattle.spanning.proofs.Subsets.{same_or}
 
--- from x and y the points a and b are reached; last is the number of the last join passed, or 0
-pub record Walked (ps ts : List ℕ) (n x y a b last : ℕ) : Type 0 where
-  pub in_a : a < 1024
-  pub in_b : b < 1024
-  pub root_a : (t : ℕ) → last < t → root_after ps ts t a ≡ root_after ps ts t x
-  pub root_b : (t : ℕ) → last < t → root_after ps ts t b ≡ root_after ps ts t y
-  pub later_a : last ≤ get_or ts a 0
-  pub later_b : last ≤ get_or ts b 0
-  pub apart : root_after ps ts last x ≡ root_after ps ts last y → ⊥
+-- From x and y the points a and b are reached, and no join before number `last` hung either: after it they have one root exactly if
+-- x and y have. With that many joins x and y have two.
+pub record Walked (hang : ℕ → Option Hang) (n x y a b last : ℕ) : Type 0 where
+  pub one_root : (t : ℕ) → last < t → root_after hang t a ≡ root_after hang t b → root_after hang t x ≡ root_after hang t y
+  pub roots_met : (t : ℕ) → last < t → root_after hang t x ≡ root_after hang t y → root_after hang t a ≡ root_after hang t b
+  pub later_a : Stands hang last a
+  pub later_b : Stands hang last b
+  pub apart : root_after hang last x ≡ root_after hang last y → ⊥
   pub low : last ≤ n
-  pub passed : a ≡ b → last < n
 
-module _ (ps ts : List ℕ) (n : ℕ) where
-  pub start : (x y : ℕ) → x < 1024 → y < 1024 → (x ≡ y → ⊥) → Walked ps ts n x y x y 0
-  start x y lx ly other = record {
-    in_a = lx;
-    in_b = ly;
-    root_a = λ t l. refl;
-    root_b = λ t l. refl;
-    later_a = omega arith;
-    later_b = omega arith;
-    apart = other;
+-- the same, by the number of the last join passed, if one was
+abbrev pub Climbed : (ℕ → Option Hang) → ℕ → ℕ → ℕ → ℕ → ℕ → Option ℕ → Type 0
+Climbed hang n x y a b None = ((a ≡ x) × (b ≡ y)) ⊎ ((a ≡ y) × (b ≡ x))
+Climbed hang n x y a b (Some last) = Walked hang n x y a b last × (last < n)
+
+module _ (hang : ℕ → Option Hang) (n : ℕ) where
+  -- before the first join passed
+  start : (x y a b : ℕ) → (a ≡ x) × (b ≡ y) → (a ≡ b → ⊥) → Walked hang n x y a b 0
+  start x y a b p other = record {
+    one_root = λ t l q. ap (root_after hang t) (sym p.0) ∙ q ∙ ap (root_after hang t) p.1;
+    roots_met = λ t l q. ap (root_after hang t) p.0 ∙ q ∙ ap (root_after hang t) (sym p.1);
+    later_a = λ h is. omega arith;
+    later_b = λ h is. omega arith;
+    apart = λ e. other (p.0 ∙ e ∙ sym p.1);
     low = omega arith;
-    passed = λ q. absurd (other q);
   }
 
-  turned : (x y a b last : ℕ) → Walked ps ts n x y a b last → Walked ps ts n y x b a last
+  turned : (x y a b last : ℕ) → Walked hang n x y a b last → Walked hang n x y b a last
   turned x y a b last w = record {
-    in_a = w.in_b;
-    in_b = w.in_a;
-    root_a = w.root_b;
-    root_b = w.root_a;
+    one_root = λ t l q. w.one_root t l (sym q);
+    roots_met = λ t l q. sym (w.roots_met t l q);
     later_a = w.later_b;
     later_b = w.later_a;
-    apart = λ q. w.apart (sym q);
+    apart = w.apart;
     low = w.low;
-    passed = λ q. w.passed (sym q);
   }
 
-  -- while they are apart, the points reached have two roots until the earlier is hung
-  still_apart : (x y a b last t : ℕ) → Walked ps ts n x y a b last → (a ≡ b → ⊥) → last ≤ t → t ≤ get_or ts a 0 → t ≤ get_or ts b 0 → root_after ps ts t x ≡ root_after ps ts t y → ⊥
+  -- while they are apart
+  walked : (x y a b : ℕ) (last : Option ℕ) → Climbed hang n x y a b last → (a ≡ b → ⊥) → (t : ℕ) × Walked hang n x y a b t
+  walked x y a b None (inl p) other = (0, start x y a b p other)
+  walked x y a b None (inr p) other = (0, turned x y b a 0 (start x y b a (p.1, p.0) (λ q. other (sym q))))
+  walked x y a b (Some last) w other = (last, w.0)
+
+  -- in either order
+  pub walked_in_order : (x y a b low high : ℕ) (last : Option ℕ) → Climbed hang n x y a b last → (a ≡ b → ⊥) → ((low ≡ a) × (high ≡ b)) ⊎ ((low ≡ b) × (high ≡ a)) → (t : ℕ) × Walked hang n x y low high t
+  walked_in_order x y a b low high last c other (inl p) = let w = walked x y a b last c other in (w.0, subst (λ v. Walked hang n x y v high w.0) (sym p.0) (subst (λ v. Walked hang n x y a v w.0) (sym p.1) w.1))
+  walked_in_order x y a b low high last c other (inr p) =
+      let w = walked x y a b last c other in
+      (w.0, subst (λ v. Walked hang n x y v high w.0) (sym p.0) (subst (λ v. Walked hang n x y b v w.0) (sym p.1) (turned x y a b w.0 w.1)))
+
+  -- while they are apart, the points reached have two roots until one of them is hung
+  still_apart : (x y a b last t : ℕ) → Walked hang n x y a b last → (a ≡ b → ⊥) → last ≤ t → Stands hang t a → Stands hang t b → root_after hang t x ≡ root_after hang t y → ⊥
   still_apart x y a b last t w other l la lb q = elim (same_or last t) [
-    | inl e ↦ w.apart (subst (λ s. root_after ps ts s x ≡ root_after ps ts s y) (sym e) q)
-    | inr more ↦
-        let up : last < t = omega arith in
-        other (sym (own_root ps ts t a la) ∙ w.root_a t up ∙ q ∙ sym (w.root_b t up) ∙ own_root ps ts t b lb)
+    | inl e ↦ w.apart (subst (λ s. root_after hang s x ≡ root_after hang s y) (sym e) q)
+    | inr more ↦ other (sym (own_root hang t a la) ∙ w.roots_met t (omega arith) q ∙ own_root hang t b lb)
   ]
 
-  module _ (below : (x : ℕ) → get_or ps x 0 < 1024) (rises : (x : ℕ) → x < 1024 → get_or ts x 0 < n → get_or ts x 0 < get_or ts (get_or ps x 0) 0) where
-    pub step_a : (x y a b last : ℕ) → Walked ps ts n x y a b last → (a ≡ b → ⊥) → get_or ts a 0 ≤ get_or ts b 0 → get_or ts a 0 < n → Walked ps ts n x y (get_or ps a 0) b (get_or ts a 0)
-    step_a x y a b last w other first early =
-        let up = rises a w.in_a early in
-        let past = w.later_a in
+  -- the one that was hung first goes up
+  pub step : (early : (x : ℕ) (h : Hang) → hang x ≡ Some h → h.join < n) → (rises : (x : ℕ) (h above : Hang) → hang x ≡ Some h → hang h.parent ≡ Some above → h.join < above.join)
+      → (x y a b last : ℕ) (h : Hang) → Walked hang n x y a b last → (a ≡ b → ⊥) → hang a ≡ Some h → Stands hang h.join b → Climbed hang n x y h.parent b (Some h.join)
+  step early rises x y a b last h w other is first =
+      let past = w.later_a h is in
+      let up : Stands hang (suc h.join) h.parent = λ above at. omega (arith, rises a h above is at) in
+      let stands : Stands hang h.join a = λ g at. omega (arith, hangs_once (hang a) h g is at) in (
         record {
-          in_a = below a;
-          in_b = w.in_b;
-          root_a = λ t l. root_of_parent ps ts t a up l ∙ w.root_a t (omega arith);
-          root_b = λ t l. w.root_b t (omega arith);
-          later_a = omega arith;
+          one_root = λ t l q. w.one_root t (omega arith) (sym (root_of_parent hang t a h is up l) ∙ q);
+          roots_met = λ t l q. root_of_parent hang t a h is up l ∙ w.roots_met t (omega arith) q;
+          later_a = λ above at. omega (arith, rises a h above is at);
           later_b = first;
-          apart = still_apart x y a b last (get_or ts a 0) w other past (omega arith) first;
-          low = omega arith;
-          passed = λ q. early;
-        }
-
-    pub step_b : (x y a b last : ℕ) → Walked ps ts n x y a b last → (a ≡ b → ⊥) → get_or ts b 0 ≤ get_or ts a 0 → get_or ts b 0 < n → Walked ps ts n x y a (get_or ps b 0) (get_or ts b 0)
-    step_b x y a b last w other first early = turned y x (get_or ps b 0) a (get_or ts b 0) (step_a y x b a last (turned x y a b last w) (λ q. other (sym q)) first early)
+          apart = still_apart x y a b last h.join w other past stands first;
+          low = omega (arith, early a h is);
+        },
+        early a h is,
+      )
 
   -- two roots: never joined
-  pub never : (x y a b last : ℕ) → Walked ps ts n x y a b last → (a ≡ b → ⊥) → n ≤ get_or ts a 0 → n ≤ get_or ts b 0 → root_after ps ts n x ≡ root_after ps ts n y → ⊥
-  never x y a b last w other la lb = still_apart x y a b last n w other w.low la lb
+  pub never : (x y a b last : ℕ) → Walked hang n x y a b last → (a ≡ b → ⊥) → ((h : Hang) → hang a ≡ Some h → ⊥) → ((h : Hang) → hang b ≡ Some h → ⊥) → root_after hang n x ≡ root_after hang n y → ⊥
+  never x y a b last w other root_a root_b = still_apart x y a b last n w other w.low (λ h is. absurd (root_a h is)) (λ h is. absurd (root_b h is))
 
   -- they meet: joined by the last join passed
-  pub meets : (x y a b last : ℕ) → Walked ps ts n x y a b last → a ≡ b → root_after ps ts (suc last) x ≡ root_after ps ts (suc last) y
-  meets x y a b last w q = sym (w.root_a (suc last) (omega arith)) ∙ ap (root_after ps ts (suc last)) q ∙ w.root_b (suc last) (omega arith)
-
--- of two times the earlier is a join's, unless both are roots'
-pub earlier_hung : (ts : List ℕ) (n x y : ℕ) → x < 1024 → y < 1024 → ((z : ℕ) → z < 1024 → n ≤ get_or ts z 0 → get_or ts z 0 ≡ 65535) → n ≤ 1024 → get_or ts x 0 < get_or ts y 0 → get_or ts x 0 < n
-earlier_hung ts n x y lx ly hung few less = elim (dec_lt (get_or ts x 0) n) [
-  | yes early ↦ early
-  | no late ↦
-      let never-x = hung x lx (omega arith) in
-      let never-y = hung y ly (omega arith) in
-      absurd (omega arith)
-]
+  pub meets : (x y a b last : ℕ) → Walked hang n x y a b last → a ≡ b → root_after hang (suc last) x ≡ root_after hang (suc last) y
+  meets x y a b last w q = w.one_root (suc last) (omega arith) (ap (root_after hang (suc last)) q)
 
 -- different points that links join are ends of links
 pub ends_of : (g : Graph) (S : ℕ → Bool) → ((k : ℕ) → T (S k) → (g.first k < 1024) × (g.second k < 1024)) → (x y : ℕ) → Joined g S x y → (x ≡ y) ⊎ ((x < 1024) × (y < 1024))

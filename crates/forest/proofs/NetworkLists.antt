@@ -1,5 +1,5 @@
--- Lists of ends and roles with one more written.
-use Rattle.std.proofs.Common.{◌≡◌, ℕ, zero, suc, ◌+◌, ◌<◌, ◌≤◌, List, [], ◌∷◌, length, get_or, set, replicate, sym, refl, ap, ◌∙◌, subst, inl, inr, arith}
+-- Lists with one more written.
+use Rattle.std.proofs.Common.{◌≡◌, ℕ, zero, suc, ◌+◌, ◌<◌, ◌≤◌, List, length, get_or, set, replicate, sym, refl, ap, ◌∙◌, subst, inl, inr, arith}
 use Rattle.std.proofs.lemmas.List.{get_or-set_same, get_or-set_other}
 use Rattle.spanning.proofs.Subsets.{same_or}
 
@@ -16,13 +16,6 @@ module _ {X : Type 0} (xs : List X) (i : ℕ) (v d : X) (within : i < length xs)
   pub unwritten : (k : ℕ) → (k ≡ i → ⊥) → get_or (set xs i v) k d ≡ get_or xs k d
   unwritten k n = get_or-set_other xs i k v d n
 
-  -- what holds of all, and of what was written, holds after
-  pub still : (P : X → Type 0) → ((k : ℕ) → P (get_or xs k d)) → P v → (k : ℕ) → P (get_or (set xs i v) k d)
-  still P all new k = elim (same_or k i) [
-    | inl q ↦ subst P (sym (written k q)) new
-    | inr n ↦ subst P (sym (unwritten k n)) (all k)
-  ]
-
   -- what holds past a place still holds past the next
   pub still_past : (P : X → Type 0) → ((k : ℕ) → i ≤ k → P (get_or xs k d)) → (k : ℕ) → i + 1 ≤ k → P (get_or (set xs i v) k d)
   still_past P all k l = subst P (sym (unwritten k (λ q. omega arith))) (all k (omega arith))
@@ -33,9 +26,3 @@ module _ {X : Type 0} (xs : List X) (i : ℕ) (v d : X) (within : i < length xs)
     | inl q ↦ subst (P k) (sym (written k q)) (subst (λ j. P j v) (sym q) new)
     | inr n ↦ subst (P k) (sym (unwritten k n)) (all k (omega arith))
   ]
-
--- below the length the default does not matter
-pub any_default : {X : Type 0} (xs : List X) (i : ℕ) (d e : X) → i < length xs → get_or xs i d ≡ get_or xs i e
-any_default [] i d e l = absurd (omega arith)
-any_default (x ∷ xs) zero d e l = refl
-any_default (x ∷ xs) (suc i) d e l = any_default xs i d e (omega arith)

@@ -1,5 +1,5 @@
 -- The links of a tree, joined by rank.
-use Rattle.std.proofs.Common.{◌≡◌, ℕ, ◌+◌, ◌<◌, Bool, true, false, not, ◌&&◌, ◌||◌, T, eqb, ltb, ◌⊎◌, List, [], ◌∷◌, ◌++◌, length, get_or, take, sym, refl, ap, ◌∙◌, subst, inl, inr, arith, ltb→lt, lt→ltb}
+use Rattle.std.proofs.Common.{◌≡◌, ℕ, ◌+◌, ◌<◌, ◌≤◌, Bool, true, false, not, ◌&&◌, ◌||◌, T, eqb, ltb, ◌⊎◌, List, [], ◌∷◌, ◌++◌, length, get_or, take, sym, refl, ap, ◌∙◌, subst, inl, inr, arith, ltb→lt, lt→ltb}
 use native.Mathlib.Decide.{dec_lt}
 use Rattle.std.proofs.lemmas.List.{length_push, get_or_push, get_or_append_left, take_all}
 use Rattle.spanning.specs.Joined.{Joined, NoRing}
@@ -12,12 +12,20 @@ use Rattle.forest.specs.declared.merges.Merges.{Merges}
 use Rattle.forest.specs.declared.networks.Network.{Network}
 use Rattle.forest.specs.Growing.{kept_of, free_of}
 use Rattle.forest.specs.Merges.{among, joins_of, Remembers}
-use Rattle.forest.specs.Paths.{FreeByRank, JoinedByRank, rest_of, rest_below, ranked_to}
-use Rattle.forest.specs.Readings.{links_of}
+use Rattle.forest.specs.Paths.{ComesNext, FreeByRank, JoinedByRank, rest_of}
+use Rattle.forest.specs.Readings.{count_of, links_of}
 use Rattle.forest.proofs.GrowOrder.{among_next}
 use Rattle.forest.proofs.GrowSteps.{is_false, finite}
 use Rattle.forest.proofs.MergeJoins.{among_push}
 use Rattle.forest.proofs.MergePaths.{among_at, place_in_front}
+
+-- those of the links of X that are not free whose numbers are below i
+abbrev pub rest_below : Network → (ℕ → Bool) → ℕ → ℕ → Bool
+rest_below n X i k = rest_of n X k && ltb k i
+
+-- the links of X that are not free or among the first i of a list
+abbrev pub ranked_to : Network → (ℕ → Bool) → List ℕ → ℕ → ℕ → Bool
+ranked_to n X order i k = X k && (not (free_of n k) || among (take i order) k)
 
 -- one more link
 module _ (n : Network) (before : ℕ → ℕ → Bool) where
@@ -39,16 +47,16 @@ module _ (n : Network) (before : ℕ → ℕ → Bool) where
   joined_same S R m e old = record { remembers = old.remembers; links = λ k. old.links k ∙ e k; by_rank = old.by_rank }
 
   -- no join is refused, for the tree has no ring
-  module _ (X S : ℕ → Bool) (m m' : Merges) (l : ℕ) (alone : NoRing (links_of n) X) (own : T (X l)) (inside : Within S (without_link X l)) (late : (k : ℕ) → T (S k) → T (free_of n k) → T (free_of n l) × T (before k l)) (old : JoinedByRank n before S m) where
+  module _ (X S : ℕ → Bool) (m m' : Merges) (l : ℕ) (alone : NoRing (links_of n) X) (next : ComesNext n X before S l) (old : JoinedByRank n before S m) where
     refused : Joined (links_of n) (among (joins_of m)) ((links_of n).first l) ((links_of n).second l) → ⊥
-    refused d = alone l own (wider (links_of n) (among (joins_of m)) (without_link X l) (λ k t. inside k (subst T (old.links k) t)) ((links_of n).first l) ((links_of n).second l) d)
+    refused d = alone l next.own (wider (links_of n) (among (joins_of m)) (without_link X l) (λ k t. next.others k (subst T (old.links k) t)) ((links_of n).first l) ((links_of n).second l) d)
 
     pub joined_more : (r : Bool) → (T r → joins_of m' ≡ joins_of m ++ l ∷ []) → (r ≡ false → Joined (links_of n) (among (joins_of m)) ((links_of n).first l) ((links_of n).second l)) → Remembers m' (links_of n) → JoinedByRank n before (with_link S l) m'
     joined_more r joins stale told = elim (true_or r) [
       | inl t ↦ record {
         remembers = told;
         links = λ k. ap (λ js. among js k) (joins t) ∙ among_push (joins_of m) l k ∙ ap (λ b. b || eqb k l) (old.links k);
-        by_rank = subst (FreeByRank n before) (sym (joins t)) (by_rank_push (joins_of m) l old.by_rank (λ k u. late k (subst T (old.links k) u)));
+        by_rank = subst (FreeByRank n before) (sym (joins t)) (by_rank_push (joins_of m) l old.by_rank (λ k u. next.late k (subst T (old.links k) u)));
       }
       | inr no-t ↦ absurd (refused (stale (is_false r no-t)))
     ]
@@ -77,13 +85,16 @@ module _ (P : ℕ → Bool) (i k : ℕ) where
 
 -- the links that are not free, by number
 module _ (n : Network) (X : ℕ → Bool) where
-  pub rest_tight : (i : ℕ) → Within (rest_below n X i) (without_link X i)
+  rest_tight : (i : ℕ) → Within (rest_below n X i) (without_link X i)
   rest_tight i k t =
       let less = ltb→lt k i (and_right (rest_of n X k) (ltb k i) t) in
       without_in X i k (and_left (X k) (not (free_of n k)) (and_left (rest_of n X k) (ltb k i) t)) (λ q. omega arith)
 
-  pub rest_not_free : (i k : ℕ) → T (rest_below n X i k) → T (free_of n k) → ⊥
+  rest_not_free : (i k : ℕ) → T (rest_below n X i k) → T (free_of n k) → ⊥
   rest_not_free i k t = not_to (free_of n k) (and_right (X k) (not (free_of n k)) (and_left (rest_of n X k) (ltb k i) t))
+
+  pub rest_next : (before : ℕ → ℕ → Bool) (i : ℕ) → T (X i) → ComesNext n X before (rest_below n X i) i
+  rest_next before i own = record { own = own; others = rest_tight i; late = λ k t loose. absurd (rest_not_free i k t loose) }
 
   pub rest_with : (i : ℕ) → T (X i) → (T (free_of n i) → ⊥) → (k : ℕ) → with_link (rest_below n X i) i k ≡ rest_below n X (i + 1) k
   rest_with i own out k = below_with (rest_of n X) i k (and_both (X i) (not (free_of n i)) own (not_from (free_of n i) out))
@@ -102,22 +113,25 @@ module _ (n : Network) (X : ℕ → Bool) where
   }
 
   -- the links of a tree without a ring are the network's
-  below_count : NoRing (links_of n) X → (k : ℕ) → T (X k) → k < n.count
-  below_count alone k t = elim (dec_lt k n.count) [
+  below_count : NoRing (links_of n) X → (k : ℕ) → T (X k) → k < count_of n
+  below_count alone k t = elim (dec_lt k (count_of n)) [
     | yes l ↦ l
     | no past ↦ absurd (alone k t (subst (λ y. Joined (links_of n) (without_link X k) ((links_of n).first k) y) (finite n k (omega arith)) (same ((links_of n).first k))))
   ]
 
-  pub rest_all : NoRing (links_of n) X → (order : List ℕ) (k : ℕ) → rest_below n X n.count k ≡ ranked_to n X order 0 k
-  rest_all alone order k = tests (X k) (not (free_of n k)) (ltb k n.count) (λ t. lt→ltb k n.count (below_count alone k t)) where
-    tests : (a b c : Bool) → (T a → T c) → ((a && b) && c) ≡ (a && (b || false))
+  pub rest_all : NoRing (links_of n) X → (last : ℕ) → 2048 ≤ last → (k : ℕ) → rest_below n X last k ≡ rest_of n X k
+  rest_all alone last far k = tests (X k) (not (free_of n k)) (ltb k last) (λ t. lt→ltb k last (let l = below_count alone k t in omega (arith, n.short))) where
+    tests : (a b c : Bool) → (T a → T c) → ((a && b) && c) ≡ (a && b)
     tests false b c h = refl
+    tests true false c h = refl
     tests true true true h = refl
     tests true true false h = absurd (h tt)
-    tests true false c h = refl
+
+  pub rest_ranked : (order : List ℕ) (k : ℕ) → rest_of n X k ≡ ranked_to n X order 0 k
+  rest_ranked order k = elim (not (free_of n k)) as (λ b. (X k && b) ≡ (X k && (b || false))) [ true ↦ refl | false ↦ refl ]
 
 -- the free links, by rank
-module _ (n : Network) (X : ℕ → Bool) (order : List ℕ) (before : ℕ → ℕ → Bool) (ranked : Ranked n.count (kept_of n) (free_of n) before) (ordered : Ordered (free_of n) before order) where
+module _ (n : Network) (X : ℕ → Bool) (order : List ℕ) (before : ℕ → ℕ → Bool) (ranked : Ranked (count_of n) (kept_of n) (free_of n) before) (ordered : Ordered (free_of n) before order) where
   module _ (i : ℕ) (within : i < length order) where
     abbrev l : ℕ
     l = get_or order i 0
@@ -134,11 +148,14 @@ module _ (n : Network) (X : ℕ → Bool) (order : List ℕ) (before : ℕ → �
       | inr u ↦ u
     ]
 
-    pub ranked_late : (k : ℕ) → T (ranked_to n X order i k) → T (free_of n k) → T (free_of n l) × T (before k l)
+    ranked_late : (k : ℕ) → T (ranked_to n X order i k) → T (free_of n k) → T (free_of n l) × T (before k l)
     ranked_late k t fk = (loose, among_before k (free_among k t fk))
 
-    pub ranked_tight : Within (ranked_to n X order i) (without_link X l)
+    ranked_tight : Within (ranked_to n X order i) (without_link X l)
     ranked_tight k t = without_in X l k (and_left (X k) (not (free_of n k) || among (take i order) k) t) (λ q. let u = subst (λ j. T (ranked_to n X order i j)) q t in ranked.strict l loose (among_before l (free_among l u loose)))
+
+    pub ranked_next : T (X l) → ComesNext n X before (ranked_to n X order i) l
+    ranked_next own = record { own = own; others = ranked_tight; late = ranked_late }
 
     among_more : (k : ℕ) → T (ranked_to n X order i k) → T (ranked_to n X order (i + 1) k)
     among_more k t = and_both (X k) (not (free_of n k) || among (take (i + 1) order) k) (and_left (X k) (not (free_of n k) || among (take i order) k) t) (elim (or_cases (not (free_of n k)) (among (take i order) k) (and_right (X k) (not (free_of n k) || among (take i order) k) t)) [
@@ -174,10 +191,10 @@ module _ (n : Network) (X : ℕ → Bool) (order : List ℕ) (before : ℕ → �
       | inr v ↦ absurd (out (subst (λ j. T (X j)) v.0 v.1))
     ])
 
-  pub ranked_all : (k : ℕ) → ranked_to n X order (length order) k ≡ X k
-  ranked_all k = tests (X k) (free_of n k) (among (take (length order) order) k) (λ fk.
+  pub ranked_all : (last : ℕ) → length order ≤ last → (k : ℕ) → ranked_to n X order last k ≡ X k
+  ranked_all last far k = tests (X k) (free_of n k) (among (take last order) k) (λ fk.
       let at = ordered.all k fk in
-      subst (λ xs. T (among xs k)) (sym (take_all (length order) order (omega arith))) (subst (λ j. T (among order j)) at.2 (among_at order at.0 at.1))) where
+      subst (λ xs. T (among xs k)) (sym (take_all last order far)) (subst (λ j. T (among order j)) at.2 (among_at order at.0 at.1))) where
         tests : (a b c : Bool) → (T b → T c) → (a && (not b || c)) ≡ a
         tests false b c h = refl
         tests true true true h = refl

@@ -1,5 +1,5 @@
 -- The last join that two points needed, and the free links on the path between them.
-use Rattle.std.proofs.Common.{◌≡◌, ℕ, suc, ◌<◌, ◌≤◌, Bool, T, ◌⊎◌, List, get_or, take, None, sym, refl, ap, ◌∙◌, subst, inl, inr, arith, take-suc}
+use Rattle.std.proofs.Common.{◌≡◌, ℕ, suc, ◌<◌, ◌≤◌, Bool, true, false, T, ◌⊎◌, List, get_or, take, Some, None, Option, MatchOption, sym, refl, ap, ◌∙◌, subst, inl, inr, arith, take-suc}
 use Rattle.spanning.specs.Joined.{Graph, Joined, NoRing}
 use Rattle.spanning.specs.Joined.Joined.{same}
 use Rattle.spanning.specs.Sets.{with_link, without_link}
@@ -10,8 +10,10 @@ use Rattle.forest.specs.declared.networks.Network.{Network}
 use Rattle.forest.specs.declared.paths.Paths.{Paths}
 use Rattle.forest.specs.Growing.{kept_of, free_of}
 use Rattle.forest.specs.Merges.{among, joins_of, LastJoin}
-use Rattle.forest.specs.Paths.{OnPathBetween, LastBetween, LastLink, PathsOf}
-use Rattle.forest.specs.Readings.{links_of}
+use Rattle.forest.specs.Paths.{OnPathBetween, LastBetween, LastFree, LastLink, PathsOf}
+use Rattle.std.specs.Bool.{then_some}
+use Rattle.forest.specs.Readings.{count_of, links_of}
+use Rattle.forest.proofs.GrowSteps.{no_use}
 use Rattle.forest.proofs.MergeJoins.{unpushed}
 use Rattle.forest.proofs.MergePaths.{among_at, place_in_front}
 
@@ -101,13 +103,26 @@ module _ (n : Network) (X : ℕ → Bool) (before : ℕ → ℕ → Bool) (p : P
     pub none_free : (T (free_of n l) → ⊥) → (f : ℕ) → T (free_of n f) → OnPathBetween (links_of n) X x y f → ⊥
     none_free out f loose path = elim (by_rank f loose path) [ inl q ↦ out (subst (λ k. T (free_of n k)) q loose) | inr v ↦ out v.0 ]
 
--- what is told of a link in the tree, of one that is not free, and of a number past the links
-module _ (n : Network) (X : ℕ → Bool) (before : ℕ → ℕ → Bool) (k : ℕ) where
-  pub told_inside : T (X k) → LastLink n X before k None
-  told_inside own = record { outside = λ _ out. absurd (out own); inside = λ _. refl; not_free = λ _. refl }
+  -- the link of the last join, if it is free
+  pub last_if_free : (answers : ℕ → Bool → Type 0) → ((l : ℕ) (b : Bool) → answers l b → b ≡ free_of n l) → (last r : Option ℕ) → MatchOption last ((x ≡ y) ⊎ (Joined (links_of n) (among js) x y → ⊥)) (λ l. LastJoin (links_of n) js x y l)
+      → MatchOption last (r ≡ None) (λ l. (b : Bool) × answers l b × (r ≡ then_some b l)) → LastFree (links_of n) (free_of n) before X x y r
+  last_if_free answers tells None r apart none = subst (LastFree (links_of n) (free_of n) before X x y) (sym none) (none_needed apart)
+  last_if_free answers tells (Some l) r needed kept = subst (LastFree (links_of n) (free_of n) before X x y) (sym kept.2) (by_test kept.0 (tells l kept.0 kept.1)) where
+    by_test : (b : Bool) → b ≡ free_of n l → LastFree (links_of n) (free_of n) before X x y (then_some b l)
+    by_test true e = last_free l needed (subst T e tt)
+    by_test false e = none_free l needed (λ t. subst T (sym e) t)
 
-  pub told_not_free : (T (free_of n k) → ⊥) → LastLink n X before k None
+-- what is told of a link that is not free, of a free one outside the tree, and of a number past the links
+module _ (n : Network) (X : ℕ → Bool) (before : ℕ → ℕ → Bool) (k : ℕ) where
+  told_not_free : (T (free_of n k) → ⊥) → LastLink n X before k None
   told_not_free out = record { outside = λ loose _. absurd (out loose); inside = λ _. refl; not_free = λ _. refl }
 
-  pub told_past : n.count ≤ k → LastLink n X before k None
-  told_past past = told_not_free (λ loose. subst T (n.no_use k past) (or_right (kept_of n k) (free_of n k) loose))
+  pub told_outside : (r : Option ℕ) → X k ≡ false → free_of n k ≡ true → LastFree (links_of n) (free_of n) before X ((links_of n).first k) ((links_of n).second k) r → LastLink n X before k r
+  told_outside r out loose last = record {
+    outside = λ _ _. last;
+    inside = λ own. absurd (subst T out own);
+    not_free = λ no. absurd (no (subst T (sym loose) tt));
+  }
+
+  pub told_past : count_of n ≤ k → LastLink n X before k None
+  told_past past = told_not_free (λ loose. subst T (no_use n k past) (or_right (kept_of n k) (free_of n k) loose))

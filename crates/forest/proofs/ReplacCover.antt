@@ -8,8 +8,9 @@ use Rattle.spanning.proofs.Climbs.{leads, root_lower, own_root, root_is_root}
 use Rattle.spanning.proofs.Labels.{moved, stays}
 use Rattle.spanning.proofs.Subsets.{same_or}
 use Rattle.forest.specs.declared.rooted.Rooted.{Rooted}
-use Rattle.forest.specs.Rooted.{RootedTree, NoneBefore, FirstRejoining, Replaced, Covering}
-use Rattle.forest.proofs.ReplacParts.{one_side, two_sides, same_part_joined}
+use Rattle.forest.specs.Rooted.{count_of, place_of, parent_at, link_above, RootedTree, NoneBefore, FirstRejoining, Replaced, Covering}
+use Rattle.forest.proofs.RootWalk.{place_at}
+use Rattle.forest.proofs.ReplacParts.{place_is, place_below, cut, one_side, two_sides, same_part_joined}
 
 -- a root joined to a lower part goes under that part's root
 module _ (parts parts' : List ℕ) (a b u : ℕ) (same-u : u ≡ b) (own : root_of parts a ≡ a) (less : root_of parts b < a) (after : (w : ℕ) → root_of parts' w ≡ under parts (min (root_of parts a) (root_of parts u)) (max (root_of parts a) (root_of parts u)) w) where
@@ -27,16 +28,16 @@ root_again parts forest a z e = ap (root_of parts) (sym e) ∙ own_root parts (r
 -- only the roots of the parts count
 pub covering_same : (g : Graph) (X : ℕ → Bool) (order : List ℕ) (r : Rooted) (i : ℕ) (parts parts' : List ℕ) (out : List (Option ℕ)) → ((z : ℕ) → root_of parts' z ≡ root_of parts z) → Covering g X order r i parts out → Covering g X order r i parts' out
 covering_same g X order r i parts parts' out roots cov = record {
-  hung = λ p l. elim (cov.hung p l) [ inl e ↦ inl (roots p ∙ e) | inr e ↦ inr (roots p ∙ e ∙ sym (roots (get_or r.parents p 0))) ];
+  hung = λ p l. elim (cov.hung p l) [ inl e ↦ inl (roots p ∙ e) | inr e ↦ inr (roots p ∙ e ∙ sym (roots (parent_at r p))) ];
   lone = λ p some l none. roots p ∙ cov.lone p some l none;
   told = cov.told;
-  met = λ j l out-j. roots (get_or r.places (g.first (get_or order j 0)) 0) ∙ cov.met j l out-j ∙ sym (roots (get_or r.places (g.second (get_or order j 0)) 0));
+  met = λ j a b l out-j first second. roots a ∙ cov.met j a b l out-j first second ∙ sym (roots b);
 }
 
 some_none : (v : Option ℕ) (l : ℕ) → v ≡ Some l → v ≡ None → ⊥
 some_none v l p q = let z : ◌≡◌ {A = ℕ} 0 1 = cc in omega arith
 
-same_some : (v : Option ℕ) (l k : ℕ) → v ≡ Some l → v ≡ Some k → l ≡ k
+pub same_some : (v : Option ℕ) (l k : ℕ) → v ≡ Some l → v ≡ Some k → l ≡ k
 same_some v l k p q = cc
 
 nothings : (n e : ℕ) → get_or (replicate {A = Option ℕ} n None) e None ≡ None
@@ -45,74 +46,82 @@ nothings (suc n) zero = refl
 nothings (suc n) (suc e) = nothings n e
 
 -- no link of the list yet
-pub covering_none : (g : Graph) (X : ℕ → Bool) (order : List ℕ) (r : Rooted) (parts : List ℕ) → r.count ≤ 1024 → ((z : ℕ) → z < 1024 → root_of parts z ≡ z) → Covering g X order r 0 parts (replicate 2048 None)
+pub covering_none : (g : Graph) (X : ℕ → Bool) (order : List ℕ) (r : Rooted) (parts : List ℕ) → count_of r ≤ 1024 → ((z : ℕ) → z < 1024 → root_of parts z ≡ z) → Covering g X order r 0 parts (replicate 2048 None)
 covering_none g X order r parts few own = record {
   hung = λ p l. inl (own p (omega arith));
   lone = λ p some l none. own p (omega arith);
   told = λ e l s. absurd (some_none (get_or (replicate 2048 None) e None) l s (nothings 2048 e));
-  met = λ j l. absurd (omega arith);
+  met = λ j a b l. absurd (omega arith);
 }
 
-module _ (g : Graph) (points : ℕ) (X : ℕ → Bool) (order : List ℕ) (r : Rooted) (tree : RootedTree g points X r) (few : r.count ≤ 1024) (firsts : (e : ℕ) → g.first e < points) (seconds : (e : ℕ) → g.second e < points) where
+module _ (g : Graph) (points : ℕ) (X : ℕ → Bool) (order : List ℕ) (r : Rooted) (tree : RootedTree g points X r) (firsts : (e : ℕ) → g.first e < points) (seconds : (e : ℕ) → g.second e < points) where
   abbrev link : ℕ → ℕ
-  link p = get_or r.above p 0
+  link = link_above r
 
   abbrev place : ℕ → ℕ
-  place x = get_or r.places x 0
+  place = place_at r
+
+  -- a and b are the places of a link's ends, either way round
+  abbrev pub Ends : ℕ → ℕ → ℕ → Type 0
+  Ends l a b = ((a ≡ place (g.first l)) × (b ≡ place (g.second l))) ⊎ ((a ≡ place (g.second l)) × (b ≡ place (g.first l)))
+
+  ends_below : (l a b : ℕ) → Ends l a b → (a < count_of r) × (b < count_of r)
+  ends_below l a b (inl q) = let x = place_below g points X r tree (g.first l) (firsts l) in let y = place_below g points X r tree (g.second l) (seconds l) in (omega arith, omega arith)
+  ends_below l a b (inr q) = let x = place_below g points X r tree (g.first l) (firsts l) in let y = place_below g points X r tree (g.second l) (seconds l) in (omega arith, omega arith)
+
+  along : (l a b : ℕ) → Ends l a b → (f : ℕ → ℕ) → f (place (g.first l)) ≡ f (place (g.second l)) → f a ≡ f b
+  along l a b (inl q) f e = ap f q.0 ∙ e ∙ sym (ap f q.1)
+  along l a b (inr q) f e = ap f q.0 ∙ sym e ∙ sym (ap f q.1)
 
   module _ (i : ℕ) (parts : List ℕ) (out : List (Option ℕ)) (cov : Covering g X order r i parts out) where
     abbrev R : ℕ → ℕ
     R = root_of parts
 
-    none_before : (z : ℕ) → 0 < z → z < r.count → R z ≡ z → NoneBefore g X order (link z) i
+    none_before : (z : ℕ) → 0 < z → z < count_of r → R z ≡ z → NoneBefore g X order (link z) i
     none_before z some lz lone j lj out-j =
         let l = get_or order j 0 in
-        same_part_joined g points X r tree z some lz few parts cov.hung lone (g.first l) (g.second l) (firsts l) (seconds l) (cov.met j lj out-j)
+        same_part_joined g points X r tree z some lz parts cov.hung lone (g.first l) (g.second l) (firsts l) (seconds l) (cov.met j (place (g.first l)) (place (g.second l)) lj out-j (place_is g points X r tree (g.first l) (firsts l)) (place_is g points X r tree (g.second l) (seconds l)))
 
     -- the link above the greater of two roots is covered by a link between their parts
     module _ (l : ℕ) (within : i < length order) (here : get_or order i 0 ≡ l) (outside : T (X l) → ⊥) (z : ℕ) (some : 0 < z) where
-      first_by : z < r.count → R z ≡ z → (Spans g (without_link X (link z)) l → ⊥) → FirstRejoining g X order (link z) l
+      first_by : z < count_of r → R z ≡ z → (Spans g (without_link X (link z)) l → ⊥) → FirstRejoining g X order (link z) l
       first_by lz lone apart = record { place = i; within = within; here = here; outside = outside; rejoins = apart; earlier = none_before z some lz lone }
 
-      module _ (lz : z < r.count) (lone : R z ≡ z) where
-        pub first_forth : R (place (g.first l)) ≡ z → R (place (g.second l)) < z → FirstRejoining g X order (link z) l
-        first_forth top low = first_by lz lone (λ d. two_sides g points X r tree z some lz few parts cov.hung lone (place (g.first l)) (place (g.second l)) (tree.placed (g.first l) (firsts l)) (tree.placed (g.second l) (seconds l)) top low (one_side g points X r tree z some lz few (g.first l) (g.second l) d))
-
-        pub first_back : R (place (g.second l)) ≡ z → R (place (g.first l)) < z → FirstRejoining g X order (link z) l
-        first_back top low = first_by lz lone (λ d. two_sides g points X r tree z some lz few parts cov.hung lone (place (g.second l)) (place (g.first l)) (tree.placed (g.second l) (seconds l)) (tree.placed (g.first l) (firsts l)) top low (sym (one_side g points X r tree z some lz few (g.first l) (g.second l) d)))
+      pub first_rejoining : (a b : ℕ) → Ends l a b → z < count_of r → R z ≡ z → R a ≡ z → R b < z → FirstRejoining g X order (link z) l
+      first_rejoining a b ends lz lone top low = first_by lz lone (λ d. two_sides g points X r tree z some lz parts cov.hung lone a b (ends_below l a b ends).0 (ends_below l a b ends).1 top low (along l a b ends (λ p. root_of (cut g points X r tree z some lz) p) (one_side g points X r tree z some lz (g.first l) (g.second l) d)))
 
     -- one link more is covered
-    module _ (l z low : ℕ) (some : 0 < z) (lz : z < r.count) (lone : R z ≡ z) (low-is : low ≡ R (get_or r.parents z 0)) (less : low < z) (parts' : List ℕ) (out' : List (Option ℕ)) (roots : (w : ℕ) → root_of parts' w ≡ under parts low z w) (set_is : out' ≡ set out (link z) (Some l)) (long : length out ≡ 2048) (first : FirstRejoining g X order (link z) l) where
+    module _ (l z low : ℕ) (some : 0 < z) (lz : z < count_of r) (lone : R z ≡ z) (low-is : low ≡ R (parent_at r z)) (less : low < z) (parts' : List ℕ) (out' : List (Option ℕ)) (roots : (w : ℕ) → root_of parts' w ≡ under parts low z w) (set_is : out' ≡ set out (link z) (Some l)) (long : length out ≡ 2048) (first : FirstRejoining g X order (link z) l) where
       alike : (x y : ℕ) → R x ≡ R y → root_of parts' x ≡ root_of parts' y
       alike x y e = roots x ∙ ap (λ w. cond (eqb w z) low w) e ∙ sym (roots y)
 
       stays_own : (p : ℕ) → (p ≡ z → ⊥) → R p ≡ p → root_of parts' p ≡ p
       stays_own p apart own = roots p ∙ stays (root_of parts) low z p (λ q. apart (sym own ∙ q)) ∙ own
 
-      goes_under : (p : ℕ) → p ≡ z → root_of parts' p ≡ root_of parts' (get_or r.parents p 0)
+      goes_under : (p : ℕ) → p ≡ z → root_of parts' p ≡ root_of parts' (parent_at r p)
       goes_under p q =
-          let up : R (get_or r.parents p 0) ≡ low = ap (λ k. R (get_or r.parents k 0)) q ∙ sym low-is in
-          roots p ∙ moved (root_of parts) low z p (ap R q ∙ lone) ∙ sym (roots (get_or r.parents p 0) ∙ stays (root_of parts) low z (get_or r.parents p 0) (λ s. omega arith) ∙ up)
+          let up : R (parent_at r p) ≡ low = ap (λ k. R (parent_at r k)) q ∙ sym low-is in
+          roots p ∙ moved (root_of parts) low z p (ap R q ∙ lone) ∙ sym (roots (parent_at r p) ∙ stays (root_of parts) low z (parent_at r p) (λ s. omega arith) ∙ up)
 
-      hung_more : (p : ℕ) → p < r.count → (root_of parts' p ≡ p) ⊎ (root_of parts' p ≡ root_of parts' (get_or r.parents p 0))
+      hung_more : (p : ℕ) → p < count_of r → (root_of parts' p ≡ p) ⊎ (root_of parts' p ≡ root_of parts' (parent_at r p))
       hung_more p lp = elim (cov.hung p lp) [
         | inl own ↦ elim (same_or p z) [
           | inl q ↦ inr (goes_under p q)
           | inr apart ↦ inl (stays_own p apart own)
         ]
-        | inr e ↦ inr (alike p (get_or r.parents p 0) e)
+        | inr e ↦ inr (alike p (parent_at r p) e)
       ]
 
       out_here : (e : ℕ) → e ≡ link z → get_or out' e None ≡ Some l
-      out_here e q = ap (λ o. get_or o e None) set_is ∙ ap (λ k. get_or (set out (link z) (Some l)) k None) q ∙ get_or-set_same out (link z) (Some l) None (let b = r.above_below z in omega arith)
+      out_here e q = ap (λ o. get_or o e None) set_is ∙ ap (λ k. get_or (set out (link z) (Some l)) k None) q ∙ get_or-set_same out (link z) (Some l) None (let b = r.below z in omega arith)
 
       out_other : (e : ℕ) → (e ≡ link z → ⊥) → get_or out' e None ≡ get_or out e None
       out_other e apart = ap (λ o. get_or o e None) set_is ∙ get_or-set_other out (link z) e (Some l) None apart
 
-      lone_more : (p : ℕ) → 0 < p → p < r.count → get_or out' (link p) None ≡ None → root_of parts' p ≡ p
+      lone_more : (p : ℕ) → 0 < p → p < count_of r → get_or out' (link p) None ≡ None → root_of parts' p ≡ p
       lone_more p sp lp none = elim (same_or (link p) (link z)) [
         | inl q ↦ absurd (some_none (get_or out' (link p) None) l (out_here (link p) q) none)
-        | inr apart ↦ stays_own p (λ q. apart (ap (λ k. get_or r.above k 0) q)) (cov.lone p sp lp (sym (out_other (link p) apart) ∙ none))
+        | inr apart ↦ stays_own p (λ q. apart (ap (link_above r) q)) (cov.lone p sp lp (sym (out_other (link p) apart) ∙ none))
       ]
 
       told_more : (e k : ℕ) → get_or out' e None ≡ Some k → T (X e) × FirstRejoining g X order e k
@@ -126,42 +135,35 @@ module _ (g : Graph) (points : ℕ) (X : ℕ → Bool) (order : List ℕ) (r : R
         hung = hung_more;
         lone = lone_more;
         told = told_more;
-        met = λ j lj out-j. alike (place (g.first (get_or order j 0))) (place (g.second (get_or order j 0))) (cov.met j lj out-j);
+        met = λ j a b lj out-j sa sb. alike a b (cov.met j a b lj out-j sa sb);
       }
 
-    -- a step up from the greater root, from either end
-    module _ (forest : Forest parts) (l : ℕ) (within : i < length order) (here : get_or order i 0 ≡ l) (outside : T (X l) → ⊥) (z y low : ℕ) (less-y : y < z) (low-is : low ≡ R (get_or r.parents z 0)) (less : low < z) (parts' : List ℕ) (out' : List (Option ℕ)) (roots : (w : ℕ) → root_of parts' w ≡ under parts low z w) (set_is : out' ≡ set out (link z) (Some l)) (long : length out ≡ 2048) where
+    -- a step up from the greater root
+    module _ (forest : Forest parts) (l : ℕ) (within : i < length order) (here : get_or order i 0 ≡ l) (outside : T (X l) → ⊥) (z y low : ℕ) (less-y : y < z) (low-is : low ≡ R (parent_at r z)) (less : low < z) (parts' : List ℕ) (out' : List (Option ℕ)) (roots : (w : ℕ) → root_of parts' w ≡ under parts low z w) (set_is : out' ≡ set out (link z) (Some l)) (long : length out ≡ 2048) where
       own_top : (a : ℕ) → R a ≡ z → R z ≡ z
       own_top a top = root_again parts forest a z top
 
-      low_top : (a : ℕ) → R a ≡ z → a < r.count → z < r.count
+      low_top : (a : ℕ) → R a ≡ z → a < count_of r → z < count_of r
       low_top a top la = let h = root_lower parts forest a (R a) (leads parts forest a) in omega arith
 
-      pub step_forth : R (place (g.first l)) ≡ z → R (place (g.second l)) ≡ y → Covering g X order r i parts' out'
-      step_forth top low-y =
+      pub step_up : (a b : ℕ) → Ends l a b → R a ≡ z → R b ≡ y → Covering g X order r i parts' out'
+      step_up a b ends top low-y =
           let some : 0 < z = omega arith in
-          let a = place (g.first l) in
-          let lz = low_top a top (tree.placed (g.first l) (firsts l)) in
+          let lz = low_top a top (ends_below l a b ends).0 in
           let lone = own_top a top in
-          covering_more l z low some lz lone low-is less parts' out' roots set_is long (first_forth l within here outside z some lz lone top (subst (λ k. k < z) (sym low-y) less-y))
-
-      pub step_back : R (place (g.second l)) ≡ z → R (place (g.first l)) ≡ y → Covering g X order r i parts' out'
-      step_back top low-y =
-          let some : 0 < z = omega arith in
-          let a = place (g.second l) in
-          let lz = low_top a top (tree.placed (g.second l) (seconds l)) in
-          let lone = own_top a top in
-          covering_more l z low some lz lone low-is less parts' out' roots set_is long (first_back l within here outside z some lz lone top (subst (λ k. k < z) (sym low-y) less-y))
+          covering_more l z low some lz lone low-is less parts' out' roots set_is long (first_rejoining l within here outside z some a b ends lz lone top (subst (λ k. k < z) (sym low-y) less-y))
 
     -- one link of the list is done
-    pub covering_next : ((T (X (get_or order i 0)) → ⊥) → R (place (g.first (get_or order i 0))) ≡ R (place (g.second (get_or order i 0)))) → Covering g X order r (i + 1) parts out
+    pub covering_next : ((a b : ℕ) → (T (X (get_or order i 0)) → ⊥) → place_of r (g.first (get_or order i 0)) ≡ Some a → place_of r (g.second (get_or order i 0)) ≡ Some b → R a ≡ R b) → Covering g X order r (i + 1) parts out
     covering_next last = record {
       hung = cov.hung;
       lone = cov.lone;
       told = cov.told;
-      met = λ j lj out-j. elim (same_or j i) [
-        | inl q ↦ subst (λ k. R (place (g.first (get_or order k 0))) ≡ R (place (g.second (get_or order k 0)))) (sym q) (last (λ t. out-j (subst (λ k. T (X (get_or order k 0))) (sym q) t)))
-        | inr apart ↦ cov.met j (omega arith) out-j
+      met = λ j a b lj out-j sa sb. elim (same_or j i) [
+        | inl q ↦
+            let here = ap (λ k. get_or order k 0) q in
+            last a b (λ t. out-j (subst (λ k. T (X k)) (sym here) t)) (subst (λ k. place_of r (g.first k) ≡ Some a) here sa) (subst (λ k. place_of r (g.second k) ≡ Some b) here sb)
+        | inr apart ↦ cov.met j a b (omega arith) out-j sa sb
       ];
     }
 

@@ -1,7 +1,12 @@
 pub mod Networks
 pub mod Readings
+pub mod Trees
+pub mod Hangs
 pub mod Merges
 pub mod Growing
+pub mod Places
+pub mod LinkEnds
 pub mod Rooted
+pub mod Covers
 pub mod Paths
 pub mod Tables

@@ -1,9 +1,10 @@
 -- The last-ranked free link on a tree's path between two points.
-use Rattle.std.specs.Prelude.{◌≡◌, ℕ, ◌<◌, Bool, not, ◌&&◌, ◌||◌, T, ◌⊎◌, List, length, take, Some, None, Option, nat_lt, slice_index}
+use Rattle.std.specs.Prelude.{◌≡◌, ℕ, ◌<◌, Bool, not, ◌&&◌, T, ◌⊎◌, List, length, Some, None, Option, slice_index}
 use Rattle.spanning.specs.Joined.{Graph, Joined, NoRing}
-use Rattle.spanning.specs.Sets.{without_link}
+use Rattle.spanning.specs.Sets.{held, without_link}
 use Rattle.forest.specs.declared.merges.Merges.{Merges}
 use Rattle.forest.specs.declared.networks.Network.{Network}
+use Rattle.forest.specs.declared.networks.Tree.{Tree}
 use Rattle.forest.specs.declared.paths.Paths.{Paths}
 use Rattle.forest.specs.Growing.{free_of}
 use Rattle.forest.specs.Merges.{among, joins_of, Remembers}
@@ -45,13 +46,16 @@ pub record PathsOf (n : Network) (X : ℕ → Bool) (before : ℕ → ℕ → Bo
   pub no_ring : NoRing (links_of n) X
   pub joined : JoinedByRank n before X p.merges
 
--- the links of X that are not free, and those of them below i
+-- what the paths tell of a link is right, in whatever order they were joined by
+abbrev pub ToldRightly : Tree → Paths → ℕ → Option ℕ → Type 0
+ToldRightly t p k r = let n = t.network.now in let X = held t.bits.now in (before : ℕ → ℕ → Bool) → PathsOf n X before p → LastLink n X before k r
+
+-- l is a link of X, and those of S are others; where one of them is free, l is free too and ranks after it
+pub record ComesNext (n : Network) (X : ℕ → Bool) (before : ℕ → ℕ → Bool) (S : ℕ → Bool) (l : ℕ) : Type 0 where
+  pub own : T (X l)
+  pub others : (k : ℕ) → T (S k) → T (without_link X l k)
+  pub late : (k : ℕ) → T (S k) → T (free_of n k) → T (free_of n l) × T (before k l)
+
+-- the links of X that are not free
 abbrev pub rest_of : Network → (ℕ → Bool) → ℕ → Bool
 rest_of n X k = X k && not (free_of n k)
-
-abbrev pub rest_below : Network → (ℕ → Bool) → ℕ → ℕ → Bool
-rest_below n X i k = rest_of n X k && nat_lt k i
-
--- the links of X that are not free or among the first i of a list
-abbrev pub ranked_to : Network → (ℕ → Bool) → List ℕ → ℕ → ℕ → Bool
-ranked_to n X order i k = X k && (not (free_of n k) || among (take i order) k)

@@ -10,7 +10,7 @@ use Rattle.table.specs.Verdicts.{ring_link, cut_point}
 use Rattle.forest.specs.declared.networks.Network.{Network}
 use Rattle.forest.specs.Growing.{kept_of, free_of, ring_of, cut_of, tree_of}
 use Rattle.forest.specs.Paths.{LastFree}
-use Rattle.forest.specs.Readings.{links_of, Reads}
+use Rattle.forest.specs.Readings.{count_of, links_of, Reads}
 use Rattle.forest.specs.Rooted.{Replaced}
 
 -- the network's graph and marks, its ring, its cut and its tree by rank are the table's
@@ -18,7 +18,7 @@ pub record Tells {K : Type 0} (o : Operations K) (t : Table K) (n : Network) : T
   pub graph : links_of n ≡ ends t
   pub kept : kept_of n ≡ kept t
   pub free : free_of n ≡ free t
-  pub ranked : Ranked n.count (kept_of n) (free_of n) (before o t)
+  pub ranked : Ranked (count_of n) (kept_of n) (free_of n) (before o t)
   pub ring : ring_of n ≡ ring_link t
   pub cut : cut_of n ≡ cut_point t
   pub tree : tree_of n (before o t) ≡ shown o t

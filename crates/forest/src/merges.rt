@@ -1,28 +1,36 @@
 //! Points joined one link after the other, on fixed memory: a union-find without compression that remembers its joins.
-ghost use Rattle.std.specs.Prelude.{◌≡◌, ℕ, ◌+◌, ◌<◌, ◌≤◌, length, count_by, nat_eq, slice_index};
+ghost use Rattle.std.specs.Prelude.{◌≡◌, ℕ, ◌+◌, ◌<◌, Some, length, count_by};
+ghost use Rattle.forest.specs.Hangs.{hang_in, is_root};
+ghost use Rattle.forest.specs.declared.merges.Hang.{Hang};
 
 use crate::networks::POINTS;
+use arrayvec::ArrayVec;
 
 pub mod walking;
 
-/// The time of a point that was never hung: a root.
-const NEVER: u16 = 65_535;
+/// Where a point hangs: its parent, and the number of the join that hung it.
+#[derive(Clone, Copy)]
+struct Hang {
+    parent: u16,
+    join: u16,
+}
 
-/// Each join hangs one root from another. For each point its parent, once it is hung; how many points hang below a root, itself
-/// included; and its time, the number of the join that hung it. Times rise on the way up.
+/// A point: where it hangs, if a join hung it; and how many points hung below it when it was last a root, itself included.
+#[derive(Clone, Copy)]
+struct Node {
+    hang: Option<Hang>,
+    size: u16,
+}
+
+/// Each join hangs one root from another, and its link is remembered. The numbers of the joins rise on the way up.
+// Nodes name their parents by number, in one fixed array: there is no heap.
 #[derive(Drop)]
 pub struct Merges {
-    parents: [u16; POINTS],
-    sizes: [u16; POINTS],
-    times: [u16; POINTS],
-    links: [u16; POINTS],
-    count: usize,
-    ghost long_parents: { length parents ≡ 1024 },
-    ghost long_sizes: { length sizes ≡ 1024 },
-    ghost long_times: { length times ≡ 1024 },
-    ghost long_links: { length links ≡ 1024 },
-    ghost below: { ((x : ℕ) → slice_index parents x < 1024) },
-    ghost hung_before: { ((x : ℕ) → x < 1024 → count ≤ slice_index times x → slice_index times x ≡ 65535) },
-    ghost rises: { ((x : ℕ) → x < 1024 → slice_index times x < count → slice_index times x < slice_index times (slice_index parents x)) },
-    ghost counted: { count + count_by (λ t. nat_eq t 65535) times ≡ 1024 },
+    nodes: [Node; POINTS],
+    links: ArrayVec<u16, POINTS>,
+    ghost each_point: { length nodes ≡ 1024 },
+    ghost parent_is_point: { ((x : ℕ) (h : Hang) → hang_in nodes x ≡ Some h → h.parent < 1024) },
+    ghost hung_by_join: { ((x : ℕ) (h : Hang) → hang_in nodes x ≡ Some h → h.join < length links.items) },
+    ghost rises: { ((x : ℕ) (h above : Hang) → hang_in nodes x ≡ Some h → hang_in nodes h.parent ≡ Some above → h.join < above.join) },
+    ghost joins_and_roots: { length links.items + count_by is_root nodes ≡ 1024 },
 }

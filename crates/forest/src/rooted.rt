@@ -1,25 +1,39 @@
 //! A tree of links rooted at point 0.
-ghost use Rattle.std.specs.Prelude.{◌≡◌, ℕ, ◌<◌, length, slice_index};
+ghost use Rattle.std.specs.Prelude.{◌≡◌, ℕ, ◌-◌, ◌<◌, ◌≤◌, IsSome, length, Some, None, slice_index_or};
+ghost use Rattle.std.proofs.Props.{props};
+ghost use Rattle.forest.specs.Places.{Agree, above_in, parent_in, link_in};
 
 use super::networks::POINTS;
+use arrayvec::ArrayVec;
 
-mod halves;
+mod links_by_end;
 mod reading;
 mod walking;
 
+/// What is above a place: the place of its parent, and the link between the two.
+#[derive(Clone, Copy)]
+pub struct Above {
+    pub parent: u16,
+    pub link: u16,
+}
+
+/// The place of a point: the point, and what is above it. Nothing is above the root.
+#[derive(Clone, Copy, Default)]
+struct Place {
+    point: u16,
+    above: Option<Above>,
+}
+
+// Places name their parents by number, in one fixed array: there is no heap.
 /// Points numbered by places, so that the parent of each place is a lower one. The root, point 0, has place 0.
 #[derive(Drop)]
 pub struct Rooted {
-    count: u16,
-    places: [u16; POINTS],
-    order: [u16; POINTS],
-    parents: [u16; POINTS],
-    above: [u16; POINTS],
-    ghost long_places: { length places ≡ 1024 },
-    ghost long_order: { length order ≡ 1024 },
-    ghost long_parents: { length parents ≡ 1024 },
-    ghost long_above: { length above ≡ 1024 },
-    ghost top: { ◌≡◌ {A = ℕ} (slice_index parents 0) 0 },
-    ghost lower: { ((p : ℕ) → 0 < p → slice_index parents p < p) },
-    ghost above_below: { ((p : ℕ) → slice_index above p < 2048) },
+    places: [Option<u16>; POINTS],
+    order: ArrayVec<Place, POINTS>,
+    ghost long: { length places ≡ 1024 },
+    ghost root: { slice_index_or places 0 None ≡ Some 0 } by { Prim.hlevel props },
+    ghost agree: { Agree places order.items } by { Prim.hlevel props },
+    ghost hung: { ((p : ℕ) → 0 < p → p < length order.items → IsSome (above_in order.items p)) } by { Prim.hlevel props },
+    ghost lower: { ((p : ℕ) → parent_in order.items p ≤ p - 1) },
+    ghost below: { ((p : ℕ) → link_in order.items p < 2048) },
 }

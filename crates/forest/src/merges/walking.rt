@@ -1,10 +1,11 @@
 //! Joining points, and finding the join that two points needed.
 ghost use Rattle.std.specs.Prelude.{◌≡◌, ℕ, ◌+◌, ◌<◌, ◌≤◌, false, T, ◌⊎◌, [], ◌∷◌, ◌++◌, MatchOption, ◌≢◌, slice_index, slice_set};
-ghost use Rattle.forest.specs.Merges.{among, joins_of, root_after, Remembers, LastJoin, LastJoinTells};
+ghost use Rattle.forest.specs.Merges.{among, hang_of, joins_of, join_count, root_after, NoLater, Remembers, LastJoin, LastJoinTells};
 ghost use Rattle.spanning.specs.Joined.{Graph, Joined};
 
-use super::{Merges, NEVER};
+use super::{Hang, Merges, Node};
 use crate::networks::POINTS;
+use arrayvec::ArrayVec;
 
 impl Merges {
     /// No joins: each point by itself.
@@ -13,42 +14,54 @@ impl Merges {
         ensures remembers { (g : Graph) → Remembers result g }
     {
         Merges {
-            parents: [0; POINTS],
-            sizes: [1; POINTS],
-            times: [NEVER; POINTS],
-            links: [0; POINTS],
-            count: 0,
+            nodes: [Node {
+                hang: None,
+                size: 1,
+            }; POINTS],
+            links: ArrayVec::new(),
         }
     }
 
-    // The root above a point.
-    fn root(&self, point: u16) -> u16
-        requires { point < 1024 }
-        ensures value { result ≡ root_after self.now.parents self.now.times self.now.count point }
-        ensures within { result < 1024 }
-        ensures top { slice_index self.now.times result ≡ 65535 }
+    // Where a point hangs, if a join hung it; a number past the points hangs nowhere.
+    fn hang_of(&self, point: u16) -> Option<Hang>
+        ensures { result ≡ hang_of self.now point }
     {
+        self.nodes.get(point as usize)?.hang
+    }
+
+    // The root above a point; a number past the points is its own.
+    fn root(&self, point: u16) -> u16
+        ensures value { result ≡ root_after (hang_of self.now) (join_count self.now) point }
+        ensures within { point < 1024 → result < 1024 }
+        ensures root { hang_of self.now result ≡ None }
+    {
+        // A walk up the parents: each step starts where the one before ended, so there is no list to go over.
         let mut at = point;
-        while self.times[at as usize] != NEVER {
-            at = self.parents[at as usize];
+        while let Some(hang) = self.hang_of(at) {
+            at = hang.parent;
         }
         at
     }
 
     // Hangs a root from another, as the next join.
     fn hang(&mut self, low: u16, high: u16, link: u16)
-        requires { (low < 1024) × ((high < 1024) × (((low ≢ high)) × ((slice_index self.old.times low ≡ 65535) × (slice_index self.old.times high ≡ 65535)))) }
-        ensures parents { self.new.parents ≡ slice_set self.old.parents low high }
-        ensures times { self.new.times ≡ slice_set self.old.times low self.old.count }
-        ensures links { self.new.links ≡ slice_set self.old.links self.old.count link }
-        ensures count { self.new.count ≡ self.old.count + 1 }
+        requires low_point { low < 1024 }
+        requires low_root { hang_of self.old low ≡ None }
+        requires high_point { high < 1024 }
+        requires high_root { hang_of self.old high ≡ None }
+        requires apart { low ≢ high }
+        ensures hung { hang_of self.new low ≡ Some (record { parent = high; join = join_count self.old }) }
+        ensures others { (x : ℕ) → x ≢ low → hang_of self.new x ≡ hang_of self.old x }
+        ensures joins { joins_of self.new ≡ joins_of self.old ++ link ∷ [] }
     {
-        let below = self.sizes[low as usize];
-        self.sizes[high as usize] = self.sizes[high as usize].saturating_add(below);
-        self.parents[low as usize] = high;
-        self.times[low as usize] = self.count as u16;
-        self.links[self.count] = link;
-        self.count += 1;
+        let size = self.nodes[low as usize].size;
+        let above = &mut self.nodes[high as usize];
+        above.size = above.size.saturating_add(size);
+        self.nodes[low as usize].hang = Some(Hang {
+            parent: high,
+            join: self.links.len() as u16,
+        });
+        self.links.push(link);
     }
 
     /// Joins two points by a link: the root of the smaller part is hung from the other's. False, and nothing changes, if they were
@@ -69,44 +82,55 @@ impl Merges {
         if a == b {
             return false;
         }
-        if self.sizes[a as usize] < self.sizes[b as usize] {
+        if self.nodes[a as usize].size < self.nodes[b as usize].size {
             self.hang(a, b, link);
-            return true;
+        } else {
+            self.hang(b, a, link);
         }
-        self.hang(b, a, link);
         true
+    }
+
+    // Two points, the one that was hung first before the other; a root comes last.
+    fn in_order(&self, a: u16, b: u16) -> (u16, u16)
+        ensures both { ((result.0 ≡ a) × (result.1 ≡ b)) ⊎ ((result.0 ≡ b) × (result.1 ≡ a)) }
+        ensures order { NoLater (hang_of self.now result.0) (hang_of self.now result.1) }
+    {
+        match (self.hang_of(a), self.hang_of(b)) {
+            (Some(hang), Some(other)) => {
+                if hang.join <= other.join {
+                    (a, b)
+                } else {
+                    (b, a)
+                }
+            }
+            (Some(_), None) => (a, b),
+            (None, _) => (b, a),
+        }
     }
 
     /// The link of the last join that was needed to join two points. None for one point, and for points that are not joined.
     pub fn last_between(&self, first: u16, second: u16) -> Option<u16>
         ensures { (g : Graph) → Remembers self.now g → MatchOption result ((first ≡ second) ⊎ (Joined g (among (joins_of self.now)) first second → ⊥)) (λ l. LastJoin g (joins_of self.now) first second l) }
     {
-        if first == second || first as usize >= POINTS || second as usize >= POINTS {
+        if first as usize >= POINTS || second as usize >= POINTS {
             return None;
         }
         let mut a = first;
         let mut b = second;
-        let mut last = 0;
+        let mut last = None;
+        // The two points climb in turn, whichever was hung first, so there is no list to go over.
         while a != b {
-            let time = self.times[a as usize];
-            let other = self.times[b as usize];
-            if time > other {
-                last = other;
-                b = self.parents[b as usize];
-            } else if time == NEVER {
-                return None;
-            } else {
-                last = time;
-                a = self.parents[a as usize];
-            }
+            let (low, high) = self.in_order(a, b);
+            let hang = self.hang_of(low)?;
+            last = Some(hang.join);
+            a = hang.parent;
+            b = high;
         }
-        Some(self.links[last as usize])
+        Some(self.links[last? as usize])
     }
 }
 
 /// The last join that the ends of a link needed is the last of the joined links on the path between them.
-pub fn last_join_tells() -> u8
+pub fn last_join_tells()
     ensures { LastJoinTells }
-{
-    0
-}
+{}

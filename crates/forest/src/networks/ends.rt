@@ -1,9 +1,19 @@
-//! The counts of a network, and the ends and roles of its links.
-ghost use Rattle.std.specs.Prelude.{◌≡◌, slice_index, slice_index_or};
-ghost use Rattle.table.specs.declared.marks.Role.TheVariants as role;
+//! The links of a network: their counts, ends and roles.
+ghost use Rattle.std.specs.Prelude.{◌≡◌};
+ghost use Rattle.forest.specs.Growing.{free_of};
+ghost use Rattle.forest.specs.Networks.{link_at};
+ghost use Rattle.forest.specs.Readings.{count_of, links_of};
 
-use super::{LINKS, Network};
+use super::Network;
 use table::marks::Role;
+
+/// The ends and the role of a link. By default it is barred, and joins point 0 to itself.
+#[derive(Clone, Copy, PartialEq, Eq, Debug, Default)]
+pub struct Ends {
+    pub first: u16,
+    pub second: u16,
+    pub role: Role,
+}
 
 impl Network {
     /// How many points there are.
@@ -15,38 +25,50 @@ impl Network {
 
     /// How many links there are.
     pub fn count(&self) -> usize
-        ensures { result ≡ self.now.count }
+        ensures { result ≡ count_of self.now }
     {
-        self.count
+        self.links.len()
+    }
+
+    /// The links, in the order of their numbers.
+    pub fn links(&self) -> &[Ends]
+        ensures { result.now ≡ self.now.links.items }
+    {
+        self.links.as_slice()
+    }
+
+    /// The ends and the role of a link; past the links it is barred, and joins point 0 to itself.
+    pub fn link(&self, number: u16) -> Ends
+        ensures { result ≡ link_at self.now.links.items number }
+    {
+        self.links.get(number as usize).copied().unwrap_or_default()
     }
 
     /// The first end of a link, and point 0 past the links.
     pub fn first(&self, link: u16) -> u16
-        ensures { result ≡ slice_index self.now.firsts link }
+        ensures { result ≡ (links_of self.now).first link }
     {
-        if link as usize >= LINKS {
-            return 0;
-        }
-        self.firsts[link as usize]
+        self.link(link).first
     }
 
     /// The second end of a link, and point 0 past the links.
     pub fn second(&self, link: u16) -> u16
-        ensures { result ≡ slice_index self.now.seconds link }
+        ensures { result ≡ (links_of self.now).second link }
     {
-        if link as usize >= LINKS {
-            return 0;
-        }
-        self.seconds[link as usize]
+        self.link(link).second
     }
 
     /// The role of a link, barred past the links.
     pub fn role(&self, link: u16) -> Role
-        ensures { result ≡ slice_index_or self.now.roles link role.Barred }
+        ensures { result ≡ (link_at self.now.links.items link).role }
     {
-        if link as usize >= LINKS {
-            return Role::Barred;
-        }
-        self.roles[link as usize]
+        self.link(link).role
+    }
+
+    /// Whether a link is free; past the links none is.
+    pub fn is_free(&self, link: u16) -> bool
+        ensures { result ≡ free_of self.now link }
+    {
+        self.role(link) == Role::Free
     }
 }

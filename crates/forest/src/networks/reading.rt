@@ -1,13 +1,28 @@
 //! Reading the links of a table.
-ghost use Rattle.std.specs.Prelude.{◌≡◌, ℕ, ◌<◌, ◌≤◌};
+ghost use Rattle.std.specs.Prelude.{◌≡◌, ◌+◌, ◌<◌, ◌≤◌, [], ◌∷◌, ◌++◌};
 ghost use Rattle.table.specs.Table.{Lawful};
-ghost use Rattle.table.specs.declared.marks.Role.TheVariants as roles;
-ghost use Rattle.forest.specs.Readings.{Added, Reads};
+ghost use Rattle.forest.specs.Networks.{nowhere};
+ghost use Rattle.forest.specs.Readings.{count_of, ends_in, Reads};
 
-use super::{LINKS, Network, POINTS};
+use super::ends::Ends;
+use super::{LINKS, Network};
+use arrayvec::ArrayVec;
 use price::PriceKind;
-use table::LinkTable;
+use table::links::Link;
 use table::marks::Role;
+use table::{LinkTable, MOST_POINTS};
+
+impl<K: PriceKind> From<Link<K>> for Ends {
+    ghost from_gives = { λ link ends. ends ≡ ends_in link };
+
+    fn from(link: Link<K>) -> Ends {
+        Ends {
+            first: link.first,
+            second: link.second,
+            role: Role::from(link.mark),
+        }
+    }
+}
 
 impl Network {
     /// The ends and roles of a table's links. A lawful table is read as it is. Of any other, the invariant holds: one point at least,
@@ -16,9 +31,10 @@ impl Network {
         ensures { Lawful K.PriceKind.operations (L.LinkTable.meaning table.now) → Reads (L.LinkTable.meaning table.now) result }
     {
         let mut network = Network::empty(table.points());
-        for i in 0..table.link_count().min(LINKS) {
-            if let Some(link) = table.link(i) {
-                network.push(link.first, link.second, link.mark.role());
+        // A table is asked by number: it lends no list to walk.
+        for number in 0..table.link_count().min(LINKS) {
+            if let Some(link) = table.link(number) {
+                network.push(Ends::from(link));
             }
         }
         network
@@ -26,46 +42,24 @@ impl Network {
 
     // No links on so many points, at least one and at most 1,024.
     fn empty(points: u16) -> Network
-        ensures count { ◌≡◌ {A = ℕ} result.count 0 }
+        ensures none { result.links.items ≡ [] }
         ensures points { 1 ≤ points → points ≤ 1024 → result.points ≡ points }
     {
-        let count = 0;
-        let firsts = [0; LINKS];
-        let seconds = [0; LINKS];
-        let roles = [Role::Barred; LINKS];
         Network {
-            points: points.max(1).min(1_024),
-            count,
-            firsts,
-            seconds,
-            roles,
+            points: points.clamp(1, MOST_POINTS),
+            links: ArrayVec::new(),
         }
     }
 
-    // One link more, if there is room; barred, from point 0 to itself, if its ends are not below the points.
-    fn push(&mut self, first: u16, second: u16, role: Role)
+    // One link more; barred, from point 0 to itself, if its ends are not below the points.
+    fn push(&mut self, link: Ends)
+        requires { count_of self.old < 2048 }
         ensures points { self.new.points ≡ self.old.points }
-        ensures skipped { self.old.count < 2048 → (first < self.old.points → second < self.old.points → ⊥) → Added self.old 0 0 roles.Barred self.new }
-        ensures added { self.old.count < 2048 → first < self.old.points → second < self.old.points → Added self.old first second role self.new }
+        ensures counted { count_of self.new ≡ count_of self.old + 1 }
+        ensures added { link.first < self.old.points → link.second < self.old.points → self.new.links.items ≡ self.old.links.items ++ link ∷ [] }
+        ensures skipped { (link.first < self.old.points → link.second < self.old.points → ⊥) → self.new.links.items ≡ self.old.links.items ++ nowhere ∷ [] }
     {
-        if self.count >= LINKS {
-            return;
-        }
-        if first >= self.points || second >= self.points {
-            self.put(0, 0, Role::Barred);
-            return;
-        }
-        self.put(first, second, role);
-    }
-
-    // One link more.
-    fn put(&mut self, first: u16, second: u16, role: Role)
-        requires { (self.old.count < 2048) × ((first < self.old.points) × (second < self.old.points)) }
-        ensures { Added self.old first second role self.new }
-    {
-        self.firsts[self.count] = first;
-        self.seconds[self.count] = second;
-        self.roles[self.count] = role;
-        self.count += 1;
+        let below = link.first < self.points && link.second < self.points;
+        self.links.push(if below { link } else { Ends::default() });
     }
 }

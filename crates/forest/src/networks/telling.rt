@@ -4,16 +4,12 @@ ghost use Rattle.forest.specs.Tables.{NetworksTell, PathsTell};
 use price::PriceKind;
 
 /// What is computed on the network of a lawful table is what the table's definitions say: ring, cut and the tree shown.
-pub fn networks_tell<K: PriceKind>() -> u8
+pub fn networks_tell<K: PriceKind>()
     ensures { NetworksTell K.operations }
-{
-    0
-}
+{}
 
 /// In the tree shown, the last-ranked free link on the path of a free link outside it, and the first replacement of a free link in it,
 /// are their supports.
-pub fn paths_tell<K: PriceKind>() -> u8
+pub fn paths_tell<K: PriceKind>()
     ensures { PathsTell K.operations }
-{
-    0
-}
+{}

@@ -1,85 +1,56 @@
 //! Joining the links of a tree by rank.
-ghost use Rattle.std.specs.Prelude.{◌≡◌, ℕ, ◌+◌, ◌<◌, Bool, T, List, length, slice_index};
+ghost use Rattle.std.specs.Prelude.{◌≡◌, ℕ, Bool};
 ghost use Rattle.spanning.specs.Joined.{NoRing};
-ghost use Rattle.spanning.specs.Sets.{with_link, without_link};
-ghost use Rattle.spanning.specs.Trees.{Ranked, Ordered};
-ghost use Rattle.forest.specs.Growing.{kept_of, free_of};
-ghost use Rattle.spanning.specs.Sets.{held};
-ghost use Rattle.forest.specs.Paths.{JoinedByRank, PathsOf, rest_below, ranked_to};
+ghost use Rattle.spanning.specs.Sets.{held, with_link};
+ghost use Rattle.forest.specs.Growing.{FreeInOrder};
+ghost use Rattle.forest.specs.Paths.{ComesNext, JoinedByRank, PathsOf, rest_of};
 ghost use Rattle.forest.specs.Readings.{links_of};
 
 use super::Paths;
 use crate::merges::Merges;
-use crate::networks::bits::holds;
-use crate::networks::{LINKS, Network};
-use table::marks::Role;
+use crate::networks::Tree;
 
-// Whether a link is free.
-pub(super) fn is_free(network: &Network, link: u16) -> bool
-    ensures { result ≡ free_of network.now link }
-{
-    match network.role(link) {
-        Role::Kept => false,
-        Role::Free => true,
-        Role::Barred => false,
+impl Tree<'_> {
+    // Joins a link of the tree, after other links of the tree of which no free one ranks after it.
+    fn join(&self, link: u16, merges: &mut Merges)
+        ensures { let n = self.now.network.now in let X = held self.now.bits.now in (before : ℕ → ℕ → Bool) (S : ℕ → Bool) → NoRing (links_of n) X → ComesNext n X before S link → JoinedByRank n before S merges.old → JoinedByRank n before (with_link S link) merges.new }
+    {
+        merges.join(self.network.first(link), self.network.second(link), link);
     }
-}
 
-// Joins a link of the tree, after links of the tree of which no free one ranks after it.
-fn join_link(network: &Network, link: u16, merges: &mut Merges)
-    ensures { (before : ℕ → ℕ → Bool) (X : ℕ → Bool) (S : ℕ → Bool) → NoRing (links_of network.now) X → T (X link) → ((k : ℕ) → T (S k) → T (without_link X link k)) → ((k : ℕ) → T (S k) → T (free_of network.now k) → T (free_of network.now link) × T (before k link)) → JoinedByRank network.now before S merges.old → JoinedByRank network.now before (with_link S link) merges.new }
-{
-    merges.join(network.first(link), network.second(link), link);
-}
-
-// Joins a link, if it is in the tree and not free.
-fn join_kept(network: &Network, tree: &[bool; LINKS], link: u16, merges: &mut Merges)
-    ensures { (before : ℕ → ℕ → Bool) → NoRing (links_of network.now) (held tree.now) → JoinedByRank network.now before (rest_below network.now (held tree.now) link) merges.old → JoinedByRank network.now before (rest_below network.now (held tree.now) (link + 1)) merges.new }
-{
-    if is_free(network, link) {
-        return;
+    // The links of the tree that are not free, the kept ones, joined one after the other.
+    fn join_kept(&self) -> Merges
+        ensures { let n = self.now.network.now in let X = held self.now.bits.now in (before : ℕ → ℕ → Bool) → NoRing (links_of n) X → JoinedByRank n before (rest_of n X) result }
+    {
+        let mut merges = Merges::new();
+        for (link, held) in self.bits.iter().enumerate() {
+            if *held && !self.network.is_free(link as u16) {
+                self.join(link as u16, &mut merges);
+            }
+        }
+        merges
     }
-    if holds(tree, link) {
-        join_link(network, link, merges);
-    }
-}
 
-// Joins the links of the tree that are not free: the kept ones.
-fn join_all_kept(network: &Network, tree: &[bool; LINKS], merges: &mut Merges)
-    ensures { (before : ℕ → ℕ → Bool) → NoRing (links_of network.now) (held tree.now) → JoinedByRank network.now before (rest_below network.now (held tree.now) 0) merges.old → JoinedByRank network.now before (rest_below network.now (held tree.now) network.now.count) merges.new }
-{
-    for i in 0..network.count() {
-        join_kept(network, tree, i as u16, merges);
-    }
-}
-
-// Joins a link of the order, if it is in the tree.
-fn join_free(network: &Network, tree: &[bool; LINKS], link: u16, merges: &mut Merges)
-    ensures { (order : List ℕ) (before : ℕ → ℕ → Bool) (i : ℕ) → Ranked network.now.count (kept_of network.now) (free_of network.now) before → Ordered (free_of network.now) before order → NoRing (links_of network.now) (held tree.now) → i < length order → slice_index order i ≡ link → JoinedByRank network.now before (ranked_to network.now (held tree.now) order i) merges.old → JoinedByRank network.now before (ranked_to network.now (held tree.now) order (i + 1)) merges.new }
-{
-    if holds(tree, link) {
-        join_link(network, link, merges);
-    }
-}
-
-// Joins the links of the tree that the order has, one after the other.
-fn join_all_free(network: &Network, tree: &[bool; LINKS], order: &[u16], merges: &mut Merges)
-    ensures { (before : ℕ → ℕ → Bool) → Ranked network.now.count (kept_of network.now) (free_of network.now) before → Ordered (free_of network.now) before order.now → NoRing (links_of network.now) (held tree.now) → JoinedByRank network.now before (ranked_to network.now (held tree.now) order.now 0) merges.old → JoinedByRank network.now before (ranked_to network.now (held tree.now) order.now (length order.now)) merges.new }
-{
-    for link in order {
-        join_free(network, tree, *link, merges);
+    // Joins the free links of the tree, one after the other, in the order of their ranks.
+    fn join_free(&self, order: &[u16], merges: &mut Merges)
+        ensures { let n = self.now.network.now in let X = held self.now.bits.now in (before : ℕ → ℕ → Bool) → FreeInOrder n before order.now → NoRing (links_of n) X → JoinedByRank n before (rest_of n X) merges.old → JoinedByRank n before X merges.new }
+    {
+        for link in order {
+            if self.holds(*link) {
+                self.join(*link, merges);
+            }
+        }
     }
 }
 
 impl Paths {
-    /// The paths of a tree, given by its bits. In whatever order the links are ranked, if the list given has the free links in that
-    /// order and the tree has no ring, then its links have been joined by rank, the kept ones first.
-    pub fn of(network: &Network, tree: &[bool; LINKS], order: &[u16]) -> Paths
-        ensures { (before : ℕ → ℕ → Bool) → Ranked network.now.count (kept_of network.now) (free_of network.now) before → Ordered (free_of network.now) before order.now → NoRing (links_of network.now) (held tree.now) → PathsOf network.now (held tree.now) before result }
+    /// The paths of a tree. In whatever order the links are ranked, if the list given has the free links in that order and the tree has
+    /// no ring, then its links have been joined by rank, the kept ones first.
+    pub fn of(tree: &Tree, order: &[u16]) -> Paths
+        ensures { let n = tree.now.network.now in let X = held tree.now.bits.now in (before : ℕ → ℕ → Bool) → FreeInOrder n before order.now → NoRing (links_of n) X → PathsOf n X before result }
     {
-        let mut merges = Merges::new();
-        join_all_kept(network, tree, &mut merges);
-        join_all_free(network, tree, order, &mut merges);
+        let mut merges = tree.join_kept();
+        tree.join_free(order, &mut merges);
         Paths { merges }
     }
 }

@@ -1,37 +1,21 @@
 //! Reading a rooted tree.
-ghost use Rattle.std.specs.Prelude.{◌≡◌, slice_index};
+ghost use Rattle.std.specs.Prelude.{◌≡◌};
+ghost use Rattle.forest.specs.Rooted.{place_of, above_at};
 
-use super::super::networks::POINTS;
-use super::Rooted;
+use super::{Above, Rooted};
 
 impl Rooted {
-    /// The place of a point; 1,024 for a point of the tree's network without one, and 0 from 1,024 on.
-    pub fn place(&self, point: u16) -> u16
-        ensures { result ≡ slice_index self.now.places point }
+    /// The place of a point, if it has one.
+    pub fn place(&self, point: u16) -> Option<u16>
+        ensures { result ≡ place_of self.now point }
     {
-        if point as usize >= POINTS {
-            return 0;
-        }
-        self.places[point as usize]
+        *self.places.get(point as usize)?
     }
 
-    /// The parent of a place, which is lower; 0 for the root and from 1,024 on.
-    pub fn parent(&self, place: u16) -> u16
-        ensures { result ≡ slice_index self.now.parents place }
+    /// What is above a place; none for the root, and past the places.
+    pub fn above(&self, place: u16) -> Option<Above>
+        ensures { result ≡ above_at self.now place }
     {
-        if place as usize >= POINTS {
-            return 0;
-        }
-        self.parents[place as usize]
-    }
-
-    /// The link from a place to its parent, of no meaning for the root; 0 from 1,024 on.
-    pub fn above(&self, place: u16) -> u16
-        ensures { result ≡ slice_index self.now.above place }
-    {
-        if place as usize >= POINTS {
-            return 0;
-        }
-        self.above[place as usize]
+        self.order.get(place as usize)?.above
     }
 }

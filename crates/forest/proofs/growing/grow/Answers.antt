@@ -1,27 +1,54 @@
-use Rattle.std.proofs.Common.{ℕ, Bool, false, T, ltb, replicate, None, sym, refl, ◌∙◌, arith, ltb→lt}
-use Rattle.spanning.specs.Trees.{Ranked, Ordered}
-use Rattle.spanning.proofs.Subsets.{and_right}
-use Rattle.forest.specs.Growing.{KeptTo, kept_of, free_of, kept_below}
-use Rattle.forest.specs.Readings.{links_of}
-use Rattle.forest.proofs.GrowSteps.{represents_same, is_false}
-use Rattle.forest.proofs.GrowOrder.{grown_none, grown_tree, grown_parts}
-use Rattle.forest.proofs.NetworkLists.{all_same}
+use Rattle.std.proofs.Common.{◌≡◌, ◌+◌, ◌<◌, not, T, eqb, length, get_or, sym, refl, ap, ◌∙◌, subst, arith, rules}
+use Rattle.spanning.specs.Roots.{root_of}
+use Rattle.forest.specs.Growing.{GrownTo}
+use Rattle.forest.proofs.GrowOrder.{grown_none, grown_in, grown_out, grown_tree, grown_parts}
+use Rattle.forest.proofs.GrowSteps.{apart_below}
 use Rattle.forest.proofs.growing.grow.Goals as goal
+use Rattle.forest.proofs.growing.grow.Goals.{then-join, else-join}
 
-pub returns : goal.returns
-returns c =
-    let n = c.args.network.now in
-    let none_below : (k : ℕ) → T (kept_below n 0 k) → ⊥ = λ k u. let l = ltb→lt k 0 (and_right (kept_of n k) (ltb k 0) u) in omega arith in
-    let start : KeptTo n 0 c.new-parts.result.parents (replicate 2048 false) None = record {
-      parts = represents_same c.new-parts.result.parents (links_of n) (λ _. false) (kept_below n 0) (λ k u. absurd u) (λ k u. absurd (none_below k u)) (c.new-parts.ensures.represents (links_of n));
-      bits = λ k. all_same 2048 k false ∙ sym (is_false (kept_below n 0 k) (none_below k));
-      closed = refl;
-    } in
-    let kept = c.keep_all-ring.ensures start in
-    let order = c.args.order.now in
-    let grown = λ (before : ℕ → ℕ → Bool) (ranked : Ranked n.count (kept_of n) (free_of n) before) (ordered : Ordered (free_of n) before order). c.grow_all.ensures before ranked ordered (grown_none n order before c.keep_all-ring.new.parts.parents c.keep_all-ring.new.tree c.keep_all-ring.result kept) in
+pub loop-link-init : goal.loop-link-init
+loop-link-init c =
+    let kept = c.keep_all-grower.ensures in
     record {
+      long = search rules;
       ring = kept.closed;
-      tree = λ before ranked ordered. grown_tree n order before ranked ordered c.grow_all.new.parts.parents c.grow_all.new.tree (grown before ranked ordered);
-      cut = λ before ranked ordered. c.first_apart-cut.ensures (grown_parts n order before ranked ordered c.grow_all.new.parts.parents c.grow_all.new.tree (grown before ranked ordered));
+      grown = λ before listed. grown_none c.args.network.now c.args.order.now before c.keep_all-grower.result kept;
     }
+
+pub loop-link-preserved : goal.loop-link-preserved
+loop-link-preserved c =
+    let n = c.args.network.now in
+    let order = c.args.order.now in
+    let i = c.loop-link.link-index in
+    let g = c.loop-link.grower in
+    let link = c.link-ends.result in
+    let inv = c.loop-link.invariant in
+    elim c.if-join.branch [
+      | then-join w ↦
+          let fresh : T (not (eqb (root_of g.parts.parents link.first) (root_of g.parts.parents link.second))) = subst T (sym w.if-join.true ∙ c.join.ensures.value) tt in
+          let room : get_or order i 0 < length g.tree = let low = apart_below n (get_or order i 0) link g.parts.parents c.link-ends.ensures fresh in omega arith in
+          record {
+            long = search rules;
+            ring = ap (λ h. h.ring) w.grower-is ∙ inv.ring;
+            grown = λ before listed. subst (GrownTo n order before (i + 1)) (sym w.grower-is) (grown_in n order before listed i g _ link (omega arith) c.link-ends.ensures c.join.ensures.represents (inv.grown before listed) room fresh refl);
+          }
+      | else-join w ↦
+          let stale : T (not (eqb (root_of g.parts.parents link.first) (root_of g.parts.parents link.second))) → ⊥ = λ u. subst T (sym (sym w.if-join.false ∙ c.join.ensures.value)) u in
+          record {
+            long = search rules;
+            ring = ap (λ h. h.ring) w.grower-is ∙ inv.ring;
+            grown = λ before listed. subst (GrownTo n order before (i + 1)) (sym w.grower-is) (grown_out n order before listed i g _ link (omega arith) c.link-ends.ensures c.join.ensures.represents (inv.grown before listed) stale refl);
+          }
+    ]
+
+pub returns-clause-tree : goal.returns-clause-tree
+returns-clause-tree c = λ before listed.
+    let order = c.args.order.now in
+    let whole : c.loop-link.link-index ≡ length order = omega arith in
+    grown_tree c.args.network.now order before listed c.loop-link.grower (subst (λ i. GrownTo c.args.network.now order before i c.loop-link.grower) whole (c.loop-link.invariant.grown before listed))
+
+pub returns-clause-cut : goal.returns-clause-cut
+returns-clause-cut c = λ before listed.
+    let order = c.args.order.now in
+    let whole : c.loop-link.link-index ≡ length order = omega arith in
+    c.first_apart-cut.ensures (grown_parts c.args.network.now order before listed c.loop-link.grower (subst (λ i. GrownTo c.args.network.now order before i c.loop-link.grower) whole (c.loop-link.invariant.grown before listed)))

@@ -1,6 +1,6 @@
-use Rattle.std.proofs.Common.{None}
+use Rattle.std.proofs.Common.{◌≡◌, length}
 use Rattle.forest.specs.Growing.{KeptTo}
 use Rattle.forest.proofs.growing.keep_all.Given as goal
 
-abbrev pub invariant-loop-i : goal.invariant-loop-i
-invariant-loop-i l = KeptTo l.network 0 l.initial.parts.parents l.initial.tree None → KeptTo l.network l.i l.parts.parents l.tree l.ring
+abbrev pub invariant-loop-number : goal.invariant-loop-number
+invariant-loop-number l = record { long : length l.grower.tree ≡ 2048; kept : KeptTo l.network l.number l.grower }

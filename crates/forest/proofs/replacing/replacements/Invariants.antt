@@ -1,7 +1,11 @@
-use Rattle.forest.specs.Readings.{links_of}
+use Rattle.std.proofs.Common.{◌≡◌}
 use Rattle.spanning.specs.Sets.{held}
-use Rattle.forest.specs.Rooted.{RootedTree, Covering}
+use Rattle.forest.specs.Covers.{CoveredTo}
 use Rattle.forest.proofs.replacing.replacements.Given as goal
 
 abbrev pub invariant-loop-link : goal.invariant-loop-link
-invariant-loop-link l = RootedTree (links_of l.network) l.network.points (held l.tree) l.rooted → Covering (links_of l.network) (held l.tree) l.order l.rooted l.link-index l.parts.parents l.out
+invariant-loop-link l = record {
+  network : l.cover.network ≡ l.initial.cover.network;
+  rooted : l.cover.rooted ≡ l.initial.cover.rooted;
+  covered : CoveredTo (held l.tree.bits.now) l.order l.link-index l.cover;
+}

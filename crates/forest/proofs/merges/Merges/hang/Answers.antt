@@ -1,20 +1,24 @@
-use Rattle.std.proofs.Common.{◌<◌, length, ◌∙◌, arith}
+use Rattle.std.proofs.Common.{◌≡◌, ◌+◌, ◌<◌, length, Some, ap, ◌∙◌, arith}
 use Rattle.std.proofs.lemmas.List.{length-set}
-use Rattle.forest.proofs.MergeRoots.{room, counted_more}
-use Rattle.forest.proofs.MergeHanging.{below_still, hung_still, rises_still}
+use Rattle.forest.specs.Merges.{join_count}
+use Rattle.forest.proofs.MergeHanging.{parents_still, joins_still, all_rise, counted_still}
 use Rattle.forest.proofs.merges.Merges.hang.Goals as goal
-
-pub bounds-self-self : goal.bounds-self-self
-bounds-self-self c =
-    let m = c.args.self.now in
-    let within : c.args.low < length m.times = omega (arith, c.requires.0, m.long_times) in
-    room m.times c.args.low m.count within c.requires.1.1.1.0 m.counted
 
 pub invariant_of-self : goal.invariant_of-self
 invariant_of-self c =
     let m = c.args.self.now in
     let low = c.args.low in
     let high = c.args.high in
-    let root = c.requires.1.1.1.0 in
-    let within : low < length m.times = omega (arith, c.requires.0, m.long_times) in
-    let few = room m.times low m.count within root m.counted in record { long_parents = length-set m.parents low high ∙ m.long_parents; long_sizes = length-set m.sizes high c.saturating_add.result ∙ m.long_sizes; long_times = length-set m.times low m.count ∙ m.long_times; long_links = length-set m.links m.count c.args.link ∙ m.long_links; below = below_still m.parents m.times m.count low high m.long_parents m.long_times c.requires.0 c.requires.1.0 c.requires.1.1.0 root c.requires.1.1.1.1 few m.below; hung_before = hung_still m.parents m.times m.count low high m.long_parents m.long_times c.requires.0 c.requires.1.0 c.requires.1.1.0 root c.requires.1.1.1.1 few m.hung_before; rises = rises_still m.parents m.times m.count low high m.long_parents m.long_times c.requires.0 c.requires.1.0 c.requires.1.1.0 root c.requires.1.1.1.1 few m.hung_before m.rises; counted = counted_more m.times low m.count within root m.counted }
+    let q = c.requires in
+    let n = join_count m in
+    let low_in : low < length m.nodes = omega (arith, m.each_point) in
+    let high_in : high < length m.nodes = omega (arith, m.each_point) in
+    let hung = ap (λ j. Some (record { parent = high; join = j })) c.len.ensures.value in
+    let one_more : length c.push.new.self.items ≡ n + 1 = c.push.ensures.len in
+    record {
+      each_point = length-set _ _ _ ∙ length-set _ _ _ ∙ m.each_point;
+      parent_is_point = parents_still m.nodes low high n _ _ low_in high_in q.apart q.low_root q.high_root hung q.high_root q.high_point m.parent_is_point;
+      hung_by_join = joins_still m.nodes low high n _ _ low_in high_in q.apart q.low_root q.high_root hung q.high_root _ one_more m.hung_by_join;
+      rises = all_rise m.nodes low high n _ _ low_in high_in q.apart q.low_root q.high_root hung q.high_root m.hung_by_join m.rises;
+      joins_and_roots = counted_still m.nodes low high n _ _ low_in high_in q.apart q.low_root q.high_root hung q.high_root _ one_more m.joins_and_roots;
+    }

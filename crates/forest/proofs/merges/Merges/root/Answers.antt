@@ -1,26 +1,24 @@
-use Rattle.std.proofs.Common.{◌≡◌, ◌≤◌, get_or, sym, ◌∙◌, arith}
-use Rattle.forest.proofs.MergeRoots.{own_root, root_of_parent, roots, left_less}
-use Rattle.forest.proofs.MergeHanging.{hung_early}
+use Rattle.std.proofs.Common.{◌≡◌, Some, sym, ◌∙◌}
+use Rattle.forest.specs.Merges.{hang_of, join_count}
+use Rattle.forest.proofs.MergeRoots.{own_root, root_of_parent}
+use Rattle.forest.proofs.MergeLast.{fewer}
 use Rattle.forest.proofs.merges.Merges.root.Goals as goal
 
-pub loop-at-preserved : goal.loop-at-preserved
-loop-at-preserved c =
-    let m = c.args.self.now in
-    let at = c.loop-at.at in
-    let early = hung_early m.times m.count at c.loop-at.invariant.0 m.hung_before c.loop-at-test.true in
-    (m.below at, root_of_parent m.parents m.times m.count at (m.rises at c.loop-at.invariant.0 early) early ∙ c.loop-at.invariant.1)
+pub loop-hang-smaller : goal.loop-hang-smaller
+loop-hang-smaller c = fewer c.args.self.now c.loop-hang.at c.in-Some.hang cc
 
-pub loop-at-smaller : goal.loop-at-smaller
-loop-at-smaller c =
+pub loop-hang-preserved : goal.loop-hang-preserved
+loop-hang-preserved c =
     let m = c.args.self.now in
-    let at = c.loop-at.at in
-    let early = hung_early m.times m.count at c.loop-at.invariant.0 m.hung_before c.loop-at-test.true in
-    left_less (get_or m.times at 0) (get_or m.times (get_or m.parents at 0) 0) m.count (roots m.times) (m.rises at c.loop-at.invariant.0 early) early m.counted
+    let at = c.loop-hang.at in
+    let h = c.in-Some.hang in
+    let is : hang_of m at ≡ Some h = cc in
+    record {
+      within = λ l. m.parent_is_point at h is;
+      one_root = root_of_parent (hang_of m) (join_count m) at h is (λ above up. m.rises at h above is up) (m.hung_by_join at h is) ∙ c.loop-hang.invariant.one_root;
+    }
 
-pub returns : goal.returns
-returns c =
+pub returns-clause-value : goal.returns-clause-value
+returns-clause-value c =
     let m = c.args.self.now in
-    let at = c.loop-at.at in
-    let few : m.count ≤ 1024 = omega (arith, m.counted) in
-    let top : get_or m.times at 0 ≡ 65535 = c.loop-at-test.false in
-    record { value = sym (own_root m.parents m.times m.count at (omega arith)) ∙ c.loop-at.invariant.1; within = c.loop-at.invariant.0; top = top }
+    sym (own_root (hang_of m) (join_count m) c.loop-hang.at (λ h is. absurd (c.in_default.not-Some h (c.hang_of.ensures ∙ is)))) ∙ c.loop-hang.invariant.one_root

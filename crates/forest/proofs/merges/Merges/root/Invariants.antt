@@ -1,12 +1,14 @@
-use Rattle.std.proofs.Common.{◌≡◌, ◌-◌, ◌<◌, get_or}
-use Rattle.forest.specs.Merges.{root_after}
+use Rattle.std.proofs.Common.{◌≡◌, ◌<◌}
+use Rattle.forest.specs.Merges.{hang_of, join_count, root_after}
+use Rattle.forest.proofs.MergeRoots.{to_go}
 use Rattle.forest.proofs.merges.Merges.root.Given as goal
 
 -- the point reached has the root that is sought
-abbrev pub invariant-loop-at : goal.invariant-loop-at
-invariant-loop-at l =
-    (l.at < 1024)
-    × (root_after l.self.parents l.self.times l.self.count l.at ≡ root_after l.self.parents l.self.times l.self.count l.point)
+abbrev pub invariant-loop-hang : goal.invariant-loop-hang
+invariant-loop-hang l = record {
+  within : l.point < 1024 → l.at < 1024;
+  one_root : root_after (hang_of l.self) (join_count l.self) l.at ≡ root_after (hang_of l.self) (join_count l.self) l.point;
+}
 
-abbrev pub decreases-loop-at : goal.decreases-loop-at
-decreases-loop-at l = 65535 - get_or l.self.times l.at 0
+abbrev pub decreases-loop-hang : goal.decreases-loop-hang
+decreases-loop-hang l = to_go (join_count l.self) (hang_of l.self l.at)

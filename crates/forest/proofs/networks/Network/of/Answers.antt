@@ -1,40 +1,34 @@
-use Rattle.std.proofs.Common.{◌≡◌, ◌+◌, ◌<◌, ◌≤◌, Some, sym, ◌∙◌, subst, arith}
+use Rattle.std.proofs.Common.{◌≡◌, ◌<◌, Some, ap, ◌∙◌, inl, inr, arith}
 use Rattle.std.specs.List.{slice_get}
-use Rattle.forest.specs.Readings.{Added, ReadTo}
-use Rattle.forest.proofs.NetworkReads.{read_next, some_link}
+use Rattle.std.proofs.lemmas.List.{map_more}
+use Rattle.std.proofs.lemmas.Option.{slice_get_cases, slice_get_within, get_or_from_slice_get}
+use Rattle.forest.specs.Readings.{count_of, ends_in}
 use Rattle.forest.proofs.networks.Network.of.Goals as goal
 use Rattle.forest.proofs.networks.Network.of.Goals.{in-Some, in_default}
 
-pub loop-i-init : goal.loop-i-init
-loop-i-init g c = λ lawful. record {
-  points = c.empty-network.ensures.points (subst (λ p. 1 ≤ p) (sym c.points.ensures) lawful.at_least_one) (subst (λ p. p ≤ 1024) (sym c.points.ensures) lawful.few) ∙ c.points.ensures;
-  count = c.empty-network.ensures.count;
-  first = λ k l. absurd (omega arith);
-  second = λ k l. absurd (omega arith);
-  role = λ k l. absurd (omega arith);
-}
-
-pub loop-i-preserved : goal.loop-i-preserved
-loop-i-preserved g c = λ lawful.
+pub loop-number-preserved : goal.loop-number-preserved
+loop-number-preserved g c =
     let t = g.L.LinkTable.meaning c.args.table.now in
-    let i = c.loop-i.i in
-    let bound = c.min-i-end.ensures in
-    let before = c.loop-i.invariant lawful in
-    let less : i < 2048 = omega (arith, c.loop-i-test.true) in
+    let i = c.loop-number.number in
+    let inv = c.loop-number.invariant in
     elim c.match-link.branch [
       | in-Some w ↦
           let link = w.in-Some.link in
-          let is : slice_get t.links i ≡ Some link = sym c.link.ensures ∙ w.in-Some.is in
-          let good = lawful.each i link is in
-          let count_is = before.count in
-          let added = w.push.ensures.added (omega arith) (subst (λ p. link.first < p) (sym before.points) good.first_below) (subst (λ p. link.second < p) (sym before.points) good.second_below) in
-          subst (ReadTo t (i + 1)) (sym w.network-is) (read_next t i c.loop-i.network w.push.new.self link less before is (subst (λ r. Added c.loop-i.network link.first link.second r w.push.new.self) w.role.ensures added))
-      | in_default w ↦
-          let has = some_link t.links i (omega (arith, c.loop-i-test.true, c.link_count.ensures)) in
-          absurd (w.in_default.not-Some has.0 (c.link.ensures ∙ has.1))
+          let is : slice_get t.links i ≡ Some link = cc in
+          let more = map_more ends_in t.links i link (slice_get_within t.links i link is) in
+          let here = get_or_from_slice_get t.links i link link is in
+          record {
+            few = omega (arith, ap count_of w.network-is);
+            points = λ lawful. cc (inv.points lawful);
+            links = λ lawful.
+                let good = lawful.each i link is in
+                let first : w.from.result.first < c.loop-number.network.points = omega (arith, good.first_below, inv.points lawful, ap (λ e. e.first) w.from.ensures) in
+                let second : w.from.result.second < c.loop-number.network.points = omega (arith, good.second_below, inv.points lawful, ap (λ e. e.second) w.from.ensures) in
+                cc (w.push.ensures.added first second, inv.links lawful, more, here);
+          }
+      | in_default w ↦ record {
+        few = omega (arith, ap count_of w.network-is);
+        points = λ lawful. cc (inv.points lawful);
+        links = λ lawful. elim (slice_get_cases t.links i).1 [ inl h ↦ absurd (w.in_default.not-Some h.0 (c.link.ensures ∙ h.2)) | inr h ↦ absurd (omega arith) ];
+      }
     ]
-
-pub returns : goal.returns
-returns g c = λ lawful.
-    let t = g.L.LinkTable.meaning c.args.table.now in
-    subst (λ i. ReadTo t i c.loop-i.network) (omega (arith, c.min-i-end.ensures, c.link_count.ensures, lawful.short, c.loop-i.auto.i-end, c.loop-i-test.false)) (c.loop-i.invariant lawful)

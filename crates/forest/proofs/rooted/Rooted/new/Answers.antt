@@ -1,41 +1,33 @@
-use Rattle.std.proofs.Common.{◌≡◌, ◌<◌, ◌≤◌, length, arith, rules}
+use Rattle.std.proofs.Common.{◌<◌, ◌≤◌, length, ap, arith}
 use Rattle.forest.specs.Readings.{links_of}
 use Rattle.spanning.specs.Sets.{held}
-use Rattle.forest.proofs.RootEnds.{held_within}
-use Rattle.forest.proofs.RootWalk.{numbered_start, linked_start}
+use Rattle.forest.specs.Rooted.{count_of}
+use Rattle.forest.proofs.RootWalk.{linked_start}
 use Rattle.forest.proofs.RootSweep.{swept_more}
 use Rattle.forest.proofs.RootedTrees.{rooted_tree}
 use Rattle.forest.proofs.rooted.Rooted.new.Goals as goal
 
-pub loop-at-init : goal.loop-at-init
-loop-at-init c =
-    let r = c.start-rooted.result in
-    let n = c.args.network.now in
-    let told = c.start-rooted.ensures in
-    (omega arith, numbered_start n.points n.some n.few r told.count told.places told.order, linked_start (links_of n) (held c.args.tree.now) r told.count, λ p l. absurd (omega arith))
-
 pub loop-at-preserved : goal.loop-at-preserved
 loop-at-preserved c =
-    let n = c.args.network.now in
-    let g = links_of n in
-    let X = held c.args.tree.now in
     let r = c.loop-at.rooted in
-    let s = c.sweep.new.self in
+    let s = c.sweep_both.new.self in
     let at = c.loop-at.at in
     let inv = c.loop-at.invariant in
-    let less : at < r.count = c.loop-at-test.true in
-    let grown = c.sweep.ensures.grown in
-    let more = grown.more in
-    let told = c.sweep.ensures.swept X c.new-halves.ensures inv.2 in
-    (omega arith, c.sweep.ensures.numbered, told.0, swept_more g X r s at less grown inv.3 told.1)
+    let less : at < count_of r = omega arith in
+    let told = c.sweep_both.ensures in
+    let more = told.grown.more in
+    let swept = rw (c.new-links.ensures.network, c.new-links.ensures.tree) at told.swept in
+    record {
+      within = omega arith;
+      linked = rw (c.new-links.ensures.network, c.new-links.ensures.tree) at told.linked;
+      swept = swept_more (links_of c.args.network.now) (held c.args.tree.now) r s at less told.grown inv.swept swept;
+    }
 
 pub returns : goal.returns
-returns c joins no_ring =
+returns c tree =
     let n = c.args.network.now in
-    let bits = c.args.tree.now in
     let r = c.loop-at.rooted in
     let inv = c.loop-at.invariant in
-    let long : length bits ≡ 2048 = search rules in
-    let most = inv.0 in
-    let done : r.count ≤ c.loop-at.at = c.loop-at-test.false in
-    rooted_tree (links_of n) n.points (held bits) r inv.1 inv.2 (λ e t. held_within bits 2048 e long t) (λ p l. inv.3 p (omega arith)) n.first_below n.second_below joins no_ring
+    let most = inv.within in
+    let done : count_of r ≤ c.loop-at.at = omega arith in
+    rooted_tree (links_of n) n.points (held c.args.tree.now) r inv.linked (λ p l. inv.swept p (omega arith)) n.first_below n.second_below tree.joins_all n.some tree.no_ring

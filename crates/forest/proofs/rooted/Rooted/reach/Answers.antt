@@ -1,38 +1,20 @@
-use Rattle.std.proofs.Common.{◌≡◌, ◌<◌, get_or, sym, subst, arith}
+use Rattle.std.proofs.Common.{not, is_some, sym, ap, ◌∙◌, subst}
+use Rattle.forest.specs.LinkEnds.{end_of}
 use Rattle.forest.specs.Readings.{links_of}
-use Rattle.forest.specs.Rooted.{link_of, far_end, near_end, Added, Placed, Between}
-use Rattle.forest.proofs.RootEnds.{far_below, link_below, half_between}
-use Rattle.forest.proofs.RootWalk.{room, numbered_one, grown_one, placed_one, linked_one}
+use Rattle.forest.specs.Rooted.{point_at, Between, Placed}
+use Rattle.forest.proofs.RootEnds.{ends_between}
+use Rattle.forest.proofs.RootWalk.{placed_some, linked_one}
 use Rattle.forest.proofs.rooted.Rooted.reach.Goals as goal
 
-pub add-requires : goal.add-requires
-add-requires c =
-    let r = c.args.self.now in
-    let n = c.args.network.now in
-    let x = c.far_end-point.result in
-    let lx : x < n.points = subst (λ y. y < n.points) (sym c.far_end-point.ensures) (far_below n c.args.half) in
-    let free = room n.points r c.requires.1.1 x c.if-self-point.true lx n.few in
-    let few = n.few in
-    (omega arith, (omega arith, (c.requires.1.0, subst (λ y. y < 2048) (sym c.link_of.ensures) (link_below c.args.half c.requires.0))))
+pub returns-else-is_none-clause-placed : goal.returns-else-is_none-clause-placed
+returns-else-is_none-clause-placed c = subst (Placed c.args.self.now) (c.point-point.ensures ∙ ap (λ e. end_of (links_of c.args.network.now) e c.args.link) c.other.ensures) (placed_some c.args.self.now c.point-point.result (ap is_some (sym c.place.ensures) ∙ c.is_none.ensures ∙ ap not c.if-is_none.false))
 
-pub returns-then-self-point : goal.returns-then-self-point
-returns-then-self-point c =
+pub returns-then-is_none-clause-linked : goal.returns-then-is_none-clause-linked
+returns-then-is_none-clause-linked c X own near was =
+    let g = links_of c.args.network.now in
     let r = c.args.self.now in
-    let s = c.add.new.self in
-    let n = c.args.network.now in
-    let g = links_of n in
-    let x = c.far_end-point.result in
-    let is : x ≡ far_end g c.args.half = c.far_end-point.ensures in
-    let lx : x < n.points = subst (λ y. y < n.points) (sym is) (far_below n c.args.half) in
-    let new = c.if-self-point.true in
-    let added : Added r s x c.args.at (link_of c.args.half) = subst (λ l. Added r s x c.args.at l) c.link_of.ensures c.add.ensures in
-    let at = c.args.at in
-    let link = link_of c.args.half in
-    record {
-      numbered = numbered_one n.points r c.requires.1.1 x new lx n.few s at link added c.requires.1.0;
-      grown = grown_one n.points r c.requires.1.1 x new lx n.few s at link added c.requires.1.0;
-      placed = subst (λ y. Placed s y) is (placed_one n.points r c.requires.1.1 x new lx n.few s at link added c.requires.1.0);
-      linked = λ X own near was.
-          let joins : Between g link x (get_or r.order at 0) = subst (λ y. Between g link x y) near (subst (λ y. Between g link y (near_end g c.args.half)) (sym is) (half_between g c.args.half)) in
-          linked_one n.points r c.requires.1.1 x new lx n.few s at link added c.requires.1.0 g X own joins was;
-    }
+    let end = c.args.end in
+    let link = c.args.link in
+    let x = c.point-point.result in
+    let joins : Between g link x (point_at r c.args.at) = subst (λ b. Between g link x b) near (subst (λ a. Between g link a (end_of g end link)) (sym (c.point-point.ensures ∙ ap (λ e. end_of g e link) c.other.ensures)) (ends_between g end link)) in
+    linked_one r x c.add.new.self c.args.at link c.add.ensures c.requires.at g X own joins was

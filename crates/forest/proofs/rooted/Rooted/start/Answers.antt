@@ -1,8 +1,9 @@
-use Rattle.std.proofs.Common.{ℕ, ◌<◌, get_or, replicate, refl, arith}
-use Rattle.spanning.proofs.Climbs.{zeros}
+use Rattle.std.proofs.Common.{◌≡◌, [], ◌∷◌, refl, rules}
+use Rattle.forest.specs.Places.{root_place}
+use Rattle.forest.proofs.RootPlaces.{agree_start, hung_start, lower_start, below_start}
 use Rattle.forest.proofs.rooted.Rooted.start.Goals as goal
 
 pub invariant_of-result : goal.invariant_of-result
 invariant_of-result c =
-    let low : (p m : ℕ) → 0 < m → get_or (replicate 1024 0) p 0 < m = λ p m l. let z = zeros 1024 p in omega arith in
-    record { long_places = refl; long_order = refl; long_parents = refl; long_above = refl; top = refl; lower = (λ p l. low p p l); above_below = (λ p. low p 2048 (omega arith)) }
+    let one : c.push.new.self.items ≡ root_place ∷ [] = search rules in
+    record { long = refl; root = refl; agree = agree_start c.push.new.self.items one; hung = hung_start c.push.new.self.items one; lower = lower_start c.push.new.self.items one; below = below_start c.push.new.self.items one }
