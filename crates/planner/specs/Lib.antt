@@ -1,3 +1,4 @@
+pub mod Lending
 pub mod Sheets
 pub mod Model
 pub mod Modelled

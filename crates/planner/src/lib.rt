@@ -2,5 +2,6 @@
 #![tactic(auto)]
 
 mod changes;
+mod lending;
 mod plans;
 mod trials;

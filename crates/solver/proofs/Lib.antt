@@ -1,9 +1,8 @@
 pub mod Judging
+pub mod Arrays
+pub mod Admitted
 pub mod Written
-pub mod Refused
+pub mod Tests
 pub mod Sifts
-pub mod NarrowReads
-pub mod NarrowCollect
-pub mod NarrowParts
 pub mod NarrowRoots
 pub mod NarrowMade

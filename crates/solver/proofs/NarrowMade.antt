@@ -1,5 +1,5 @@
 -- What is made of a lawful table is its narrowing.
-use Rattle.std.proofs.Common.{◌≡◌, ℕ, zero, suc, ◌<◌, Bool, true, false, cond, not, ◌&&◌, T, eqb, List, [], ◌∷◌, ◌++◌, map, get_or, is_some, Some, None, Option, sym, refl, ap, ◌∙◌, subst, arith, eqb→eq}
+use Rattle.std.proofs.Common.{◌≡◌, ℕ, zero, suc, ◌<◌, Bool, true, false, cond, not, ◌&&◌, T, eqb, List, [], ◌∷◌, ◌++◌, map, get_or, is_some, Some, None, Option, sym, refl, ap, ◌∙◌, subst, eqb→eq}
 use mathlib.Core.Path.{fun_ext}
 use lib.Dec.{eqb_refl}
 use Rattle.std.proofs.lemmas.List.{map-append}
@@ -20,7 +20,7 @@ use Rattle.table.proofs.Judged.Found.{some, none}
 use Rattle.table.proofs.Parts as parts-of
 use Rattle.forest.specs.declared.networks.Network.{Network}
 use Rattle.forest.specs.Growing.{free_of}
-use Rattle.forest.specs.Readings.{Reads}
+use Rattle.forest.specs.Readings.{Reads, count_of}
 use Rattle.forest.proofs.ReadTables as read
 use Rattle.solver.specs.Narrowing.{relinked, apart_in}
 
@@ -37,19 +37,16 @@ same_maps {X} f g P alike (suc m) =
       last false h = refl
 
 none_some : (r : Option ℕ) (n : ℕ) (P : ℕ → Bool) → Found n P r → r ≡ None → (k : ℕ) → k < n → T (P k) → ⊥
-none_some r n P (some j l u least) e k m v = absurd (let z : ◌≡◌ {A = ℕ} 1 0 = ap tag e in omega arith) where
-  tag : Option ℕ → ℕ
-  tag None = 0
-  tag (Some k) = 1
+none_some r n P (some j l u least) e k m v = cc
 none_some r n P (none h) e k m v = h k m v
 
 pub some_of : (r : Option ℕ) → true ≡ is_some r → (l : ℕ) × (r ≡ Some l)
-some_of None e = absurd (let z : ◌≡◌ {A = ℕ} 1 0 = ap (λ b. cond b 1 0) e in omega arith)
+some_of None e = cc
 some_of (Some l) e = (l, refl)
 
 pub none_of : (r : Option ℕ) → false ≡ is_some r → r ≡ None
 none_of None e = refl
-none_of (Some l) e = absurd (let z : ◌≡◌ {A = ℕ} 0 1 = ap (λ b. cond b 1 0) e in omega arith)
+none_of (Some l) e = cc
 
 module _ {K : Type 0} (o : Operations K) (laws : Laws o) (t : Table K) (lawful : Lawful o t) where
   -- without a ring's link there is no ring
@@ -91,7 +88,7 @@ module _ {K : Type 0} (o : Operations K) (laws : Laws o) (t : Table K) (lawful :
             by_free true h = ap not (h tt)
             by_free false h = refl
 
-      pub numbers_are : numbers_of n.count (apart_in n parts) ≡ numbers t
+      pub numbers_are : numbers_of (count_of n) (apart_in n parts) ≡ numbers t
       numbers_are = ap (λ m. numbers_of m (apart_in n parts)) (read.same_count t n reads) ∙ ap (numbers_of (link_count t)) (fun_ext apart_at)
 
     pub table_is : (points : ℕ) (below : List ℕ) (carried : K) → points ≡ count (is_lowest t) t.points → below ≡ numbers t → carried ≡ cost_of o t (kept t) → ◌≡◌ {A = Table K} (record { points = points; links = map (relinked o parts t) below; carried = carried }) (narrowed o t)

@@ -16,6 +16,7 @@ use Rattle.table.proofs.Finds.{support_is}
 use Rattle.forest.specs.declared.networks.Network.{Network}
 use Rattle.forest.specs.Growing.{free_of}
 use Rattle.forest.specs.Paths.{LastFree}
+use Rattle.forest.specs.Networks.{link_at}
 use Rattle.forest.specs.Readings.{Reads}
 use Rattle.forest.specs.Rooted.{Replaced}
 use Rattle.forest.proofs.ReadSupports.{supports_are}
@@ -23,7 +24,7 @@ use Rattle.forest.proofs.ReadTables as read
 use Rattle.ranking.specs.declared.totals.Swap.{Swap}
 use Rattle.ranking.specs.Totals.{swap_of, SwapsAnswered}
 use Rattle.solver.specs.Sifting.{swap_for, judged_link, SupportedBy}
-use Rattle.solver.proofs.Refused.{is_true, is_false}
+use Rattle.solver.proofs.Tests.{is_true, is_false}
 
 module _ {K : Type 0} (o : Operations K) (laws : Laws o) (t : Table K) (lawful : Lawful o t) (n : Network) (reads : Reads t n) (order : List ℕ) (ordered : Ordered (free t) (before o t) order) where
   abbrev X : ℕ → Bool
@@ -87,7 +88,7 @@ module _ {K : Type 0} (o : Operations K) (laws : Laws o) (t : Table K) (lawful :
       ]
 
     -- the finding of any link, by its role
-    finding_by : (e : ℕ) (r : Role) → get_or n.roles e role.Barred ≡ r → swap_of swaps e ≡ swap_for (X e) e (support_of o t e) → judged_link r (X e) (support_of o t e) (get_or fits e false) ≡ finding_of o t budget e
+    finding_by : (e : ℕ) (r : Role) → (link_at n.links.items e).role ≡ r → swap_of swaps e ≡ swap_for (X e) e (support_of o t e) → judged_link r (X e) (support_of o t e) (get_or fits e false) ≡ finding_of o t budget e
     finding_by e role.Kept q s = sym (ap (λ b. cond b finding.Forced (cond (free t e) (of_any e) finding.Out)) (sym (ap (λ p. p e) (read.same_kept t n reads)) ∙ ap is_kept q)) where
       of_any : ℕ → Finding
       of_any k = cond (X k) (open_or o t budget finding.Forced (first_to_rejoin o t k) (λ g. exchanged o t k g)) (open_or o t budget finding.Out (last_on_path o t k) (λ l. exchanged o t l k))
@@ -102,5 +103,5 @@ module _ {K : Type 0} (o : Operations K) (laws : Laws o) (t : Table K) (lawful :
           of_any : ℕ → Finding
           of_any k = cond (X k) (open_or o t budget finding.Forced (first_to_rejoin o t k) (λ g. exchanged o t k g)) (open_or o t budget finding.Out (last_on_path o t k) (λ l. exchanged o t l k))
 
-    pub finding_told : (e : ℕ) → swap_of swaps e ≡ swap_for (X e) e (support_of o t e) → judged_link (get_or n.roles e role.Barred) (X e) (support_of o t e) (get_or fits e false) ≡ finding_of o t budget e
-    finding_told e s = finding_by e (get_or n.roles e role.Barred) refl s
+    pub finding_told : (e : ℕ) → swap_of swaps e ≡ swap_for (X e) e (support_of o t e) → judged_link (link_at n.links.items e).role (X e) (support_of o t e) (get_or fits e false) ≡ finding_of o t budget e
+    finding_told e s = finding_by e (link_at n.links.items e).role refl s

@@ -1,8 +1,8 @@
 -- What a narrowing stands for, and when it is the narrowing of its table.
-use Rattle.std.specs.Prelude.{◌≡◌, ℕ, ◌<◌, Bool, not, ◌&&◌, List, map, take, Some, None, Ok, Err, Result, ◌==◌, slice_index}
+use Rattle.std.specs.Prelude.{◌≡◌, ℕ, ◌<◌, Bool, not, ◌&&◌, List, map, Some, None, Ok, Err, Result, ◌==◌, slice_index}
 use Rattle.forest.specs.declared.networks.Network.{Network}
-use Rattle.forest.specs.Growing.{free_of}
-use Rattle.forest.specs.Readings.{links_of}
+use Rattle.forest.specs.declared.networks.ends.Ends.{Ends}
+use Rattle.forest.specs.Networks.{link_at}
 use Rattle.price.specs.Kind.{Operations}
 use Rattle.spanning.specs.Sets.{count}
 use Rattle.table.specs.declared.links.Link.{Link}
@@ -11,7 +11,7 @@ use Rattle.table.specs.declared.refusals.PlanFault.{PlanFault}
 use Rattle.table.specs.declared.refusals.PlanFault.TheVariants as plan-fault
 use Rattle.table.specs.Narrowed.{narrowed, numbers}
 use Rattle.table.specs.Narrows.{Narrows}
-use Rattle.table.specs.Ranks.{ends, price_of}
+use Rattle.table.specs.Ranks.{ends, is_free, price_of}
 use Rattle.table.specs.Table.{Table}
 use Rattle.table.specs.Verdicts.{ring_link}
 use Rattle.solver.specs.declared.narrowing.Narrowing.{Narrowing}
@@ -23,8 +23,8 @@ relinked o parts t k = record { first = slice_index parts ((ends t).first k); se
 -- the table that a narrowing stands for, by what the table below stands for
 abbrev pub narrowing_table : {K L : Type 0} → Operations K → (L → Table K) → Narrowing K L → Table K
 narrowing_table o below n = record {
-  points = n.points;
-  links = map (relinked o n.parts (below n.table.now)) (take n.count n.numbers);
+  points = n.parts.count;
+  links = map (relinked o n.parts.numbers.items (below n.table.now)) n.numbers.items;
   carried = n.carried;
 }
 
@@ -34,7 +34,7 @@ pub record NarrowingOf {K L : Type 0} (o : Operations K) (below : L → Table K)
   pub from : n.table.now ≡ table
   pub no_ring : ring_link (below table) ≡ None
   pub meaning : narrowing_table o below n ≡ narrowed o (below table)
-  pub numbered : take n.count n.numbers ≡ numbers (below table)
+  pub numbered : n.numbers.items ≡ numbers (below table)
   pub law : Narrows o (below table)
 
 -- Refused with 61 exactly where kept links close a ring, and else made.
@@ -42,9 +42,13 @@ abbrev pub NarrowingMade : {K L : Type 0} → Operations K → (L → Table K) �
 NarrowingMade o below table (Ok n) = NarrowingOf o below table n
 NarrowingMade o below table (Err fault) = (fault ≡ plan-fault.Ring) × (l : ℕ) × (ring_link (below table) ≡ Some l)
 
--- whether a link of a network is free and between different parts
+-- whether a link is free and between different parts
+abbrev pub are_apart : List ℕ → Ends → Bool
+are_apart parts link = is_free link.role && not (slice_index parts link.first == slice_index parts link.second)
+
+-- the same of a link of a network, by its number
 abbrev pub apart_in : Network → List ℕ → ℕ → Bool
-apart_in n parts k = free_of n k && not (slice_index parts ((links_of n).first k) == slice_index parts ((links_of n).second k))
+apart_in n parts k = are_apart parts (link_at n.links.items k)
 
 -- a point that is the root of its part
 abbrev pub is_root : (ℕ → ℕ) → ℕ → Bool

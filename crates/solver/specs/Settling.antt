@@ -1,5 +1,6 @@
 -- What settling a table answers, and what it writes.
-use Rattle.std.specs.Prelude.{ℕ, zero, suc, Bool, true, false, cond, List, [], ◌∷◌, ◌++◌, drop, Some, None, Ok, Err, Option, Result, nat_le}
+use Rattle.std.specs.Prelude.{ℕ, Bool, true, false, cond, List, ◌++◌, map, drop, Some, None, Ok, Err, Option, Result, nat_le}
+use Rattle.std.specs.List.{range_with_len}
 use Rattle.price.specs.Kind.{Operations}
 use Rattle.table.specs.declared.refusals.PlanFault.{PlanFault}
 use Rattle.table.specs.declared.refusals.PlanFault.TheVariants as plan-fault
@@ -11,8 +12,11 @@ use Rattle.table.specs.Trees.{shown}
 use Rattle.table.specs.Verdicts.{verdict_of}
 
 -- 33 where there are fewer places than links, then 46 where the budget is not admitted
+abbrev pub admit_refusal : {K : Type 0} → Operations K → ℕ → ℕ → K → Option PlanFault
+admit_refusal o links places budget = cond (nat_le links places) (cond (o.budget budget) None (Some plan-fault.Budget)) (Some plan-fault.ShortBuffer)
+
 abbrev pub settle_refusal : {K : Type 0} → Operations K → Table K → K → ℕ → Option PlanFault
-settle_refusal o t budget places = cond (nat_le (link_count t) places) (cond (o.budget budget) None (Some plan-fault.Budget)) (Some plan-fault.ShortBuffer)
+settle_refusal o t budget places = admit_refusal o (link_count t) places budget
 
 -- the refusal, or else the answer
 abbrev pub unless : {A : Type 0} → Option PlanFault → A → Result A PlanFault
@@ -28,8 +32,7 @@ has_tree (verdict.Fits c) = true
 
 -- a number for each link below n
 abbrev pub listed : (ℕ → ℕ) → ℕ → List ℕ
-listed f zero = []
-listed f (suc n) = listed f n ++ f n ∷ []
+listed f n = map f (range_with_len 0 n)
 
 -- one byte a link: 1 for a link of the set, and else 0
 abbrev pub tree_bytes : (ℕ → Bool) → ℕ → List ℕ

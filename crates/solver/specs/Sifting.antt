@@ -1,5 +1,6 @@
 -- What sifting a table answers, and what it writes.
-use Rattle.std.specs.Prelude.{◌≡◌, ℕ, Bool, cond, ◌&&◌, T, List, ◌++◌, drop, Some, None, Ok, Err, Option, Result, nat_le}
+use Rattle.std.specs.Prelude.{◌≡◌, ℕ, Bool, cond, ◌&&◌, T, List, ◌++◌, drop, Some, None, Option, nat_le}
+use Rattle.std.specs.Option.{option_map, option_or, unwrap_or}
 use Rattle.price.specs.Kind.{Operations}
 use Rattle.table.specs.declared.marks.Role.{Role}
 use Rattle.table.specs.declared.marks.Role.TheVariants as role
@@ -32,18 +33,12 @@ verdict_refusal (verdict.Fits c) = None
 abbrev pub entry_refusal : {K : Type 0} → Operations K → Table K → K → ℕ → ℕ → Option PlanFault
 entry_refusal o t budget places others = cond (nat_le (link_count t) places && nat_le (link_count t) others) (cond (o.budget budget) None (Some plan-fault.Budget)) (Some plan-fault.ShortBuffer)
 
--- the first refusal of two
-abbrev pub first_refusal : Option PlanFault → Option PlanFault → Option PlanFault
-first_refusal None second = second
-first_refusal (Some fault) second = Some fault
-
 abbrev pub sift_refusal : {K : Type 0} → Operations K → Table K → K → ℕ → ℕ → Option PlanFault
-sift_refusal o t budget places others = first_refusal (entry_refusal o t budget places others) (verdict_refusal (verdict_of o t budget))
+sift_refusal o t budget places others = option_or (entry_refusal o t budget places others) (verdict_refusal (verdict_of o t budget))
 
 -- a support as a number of 16 bits: 65,535 where there is none
 abbrev pub support_number : Option ℕ → ℕ
-support_number None = 65535
-support_number (Some l) = l
+support_number support = unwrap_or support 65535
 
 -- what the buffers hold afterwards, past the links what they held
 abbrev pub findings_written : {K : Type 0} → Operations K → Table K → K → List ℕ → List ℕ
@@ -52,18 +47,12 @@ findings_written o t budget out = listed (λ k. finding_number (finding_of o t b
 abbrev pub supports_written : {K : Type 0} → Operations K → Table K → List ℕ → List ℕ
 supports_written o t out = listed (λ k. support_number (support_of o t k)) (link_count t) ++ drop (link_count t) out
 
--- the answer: a refusal, or nothing
-abbrev pub sifted : Option PlanFault → Result (Unit {0}) PlanFault
-sifted None = Ok tt
-sifted (Some fault) = Err fault
-
 -- Means: the support of a link from what is told of it, its swap, and its finding.
 abbrev pub chosen : Bool → Bool → Option ℕ → Option ℕ → Option ℕ
 chosen free held first last = cond free (cond held first last) None
 
 abbrev pub swap_for : Bool → ℕ → Option ℕ → Option Swap
-swap_for held link None = None
-swap_for held link (Some other) = Some (cond held (record { gone = link; come = other }) (record { gone = other; come = link }))
+swap_for held link support = option_map (λ other. cond held (record { gone = link; come = other }) (record { gone = other; come = link })) support
 
 abbrev pub judged_link : Role → Bool → Option ℕ → Bool → Finding
 judged_link role.Kept held support within = finding.Forced

@@ -1,12 +1,13 @@
 //! Settling a table.
-ghost use Rattle.std.specs.Prelude.{◌≡◌, ℕ, ◌≤◌, T, ◌++◌, length, drop, if◌then◌else◌, Some, Ok, Err};
-ghost use Rattle.spanning.specs.Sets.{held};
+ghost use Rattle.std.specs.Prelude.{◌≡◌, length, Some, Ok, Err};
 ghost use Rattle.table.specs.Table.{Lawful};
 ghost use Rattle.table.specs.Verdicts.{VerdictIs, verdict_of};
-ghost use Rattle.solver.specs.Settling.{settle_refusal, unless, unless_kept, has_tree, tree_bytes, tree_written};
+ghost use Rattle.solver.specs.Settling.{settle_refusal, unless, unless_kept, has_tree, tree_written};
 ghost use Rattle.solver.specs.Solved.{Solves};
 
+use crate::admitting::admit;
 use crate::solving::Solution;
+use crate::writing::write_each;
 use forest::networks::LINKS;
 use price::PriceKind;
 use ranking::totals::tree_total;
@@ -14,25 +15,23 @@ use table::LinkTable;
 use table::refusals::PlanFault;
 use table::verdicts::Verdict;
 
-// The verdict on a solved table.
-pub(super) fn judge<K: PriceKind, L: LinkTable<K>>(
-    table: &L,
-    solution: &Solution,
-    budget: K,
-) -> Verdict<K>
-    ensures { Lawful K.PriceKind.operations (L.LinkTable.meaning table.now) → Solves K.PriceKind.operations (L.LinkTable.meaning table.now) solution.now → result ≡ verdict_of K.PriceKind.operations (L.LinkTable.meaning table.now) budget }
-{
-    if let Some(link) = solution.growth.ring {
-        return Verdict::Ring(link);
-    }
-    if let Some(point) = solution.growth.cut {
-        return Verdict::Cut(point);
-    }
-    let total = tree_total(table, &solution.growth.tree);
-    if total.not_above(budget) {
-        Verdict::Fits(total)
-    } else {
-        Verdict::Over(total)
+impl Solution {
+    // The verdict on the table that was solved.
+    pub(super) fn judge<K: PriceKind, L: LinkTable<K>>(&self, table: &L, budget: K) -> Verdict<K>
+        ensures { Lawful K.PriceKind.operations (L.LinkTable.meaning table.now) → Solves K.PriceKind.operations (L.LinkTable.meaning table.now) self.now → result ≡ verdict_of K.PriceKind.operations (L.LinkTable.meaning table.now) budget }
+    {
+        if let Some(link) = self.growth.ring {
+            return Verdict::Ring(link);
+        }
+        if let Some(point) = self.growth.cut {
+            return Verdict::Cut(point);
+        }
+        let total = tree_total(table, &self.growth.tree);
+        if total.not_above(budget) {
+            Verdict::Fits(total)
+        } else {
+            Verdict::Over(total)
+        }
     }
 }
 
@@ -40,32 +39,7 @@ pub(super) fn judge<K: PriceKind, L: LinkTable<K>>(
 fn has_tree<K>(verdict: &Verdict<K>) -> bool
     ensures { result ≡ has_tree verdict.now }
 {
-    match verdict {
-        Verdict::Ring(_) => false,
-        Verdict::Cut(_) => false,
-        Verdict::Over(_) => true,
-        Verdict::Fits(_) => true,
-    }
-}
-
-// 1 for a link of the tree, and else 0.
-fn byte(taken: bool) -> u8
-    ensures { result ≡ (if taken then 1 else 0) }
-{
-    if taken {
-        return 1;
-    }
-    0
-}
-
-// Writes a tree, one byte a link.
-fn write_tree(tree: &[bool; LINKS], count: usize, out: &mut [u8])
-    requires { (count ≤ 2048) × (count ≤ length out.old) }
-    ensures { out.new ≡ tree_bytes (held tree.now) count ++ drop count out.old }
-{
-    for i in 0..count {
-        out[i] = byte(tree[i]);
-    }
+    matches!(verdict, Verdict::Over(_) | Verdict::Fits(_))
 }
 
 /// The verdict on a table with a budget. For over and fits it writes the tree shown, one byte a link, 1 or 0; places past the links
@@ -82,16 +56,17 @@ pub fn settle<K: PriceKind, L: LinkTable<K>>(
     ensures law { Lawful K.PriceKind.operations (L.LinkTable.meaning table.now) → (v : Verdict K) → result ≡ Ok v → VerdictIs K.PriceKind.operations (L.LinkTable.meaning table.now) budget v }
 {
     let count = table.link_count();
-    if out.len() < count {
-        return Err(PlanFault::ShortBuffer);
-    }
-    if !budget.is_budget() {
-        return Err(PlanFault::Budget);
-    }
+    admit(count, out.len(), budget)?;
     let solution = Solution::of(table);
-    let verdict = judge(table, &solution, budget);
+    let verdict = solution.judge(table, budget);
     if has_tree(&verdict) {
-        write_tree(&solution.growth.tree, count.min(LINKS), out);
+        // The rules write a tree as a byte for each link, 1 or 0.
+        let written = count.min(LINKS);
+        write_each(
+            &mut out[..written],
+            &solution.growth.tree,
+            |bit| u8::from(*bit),
+        );
     }
     Ok(verdict)
 }

@@ -6,6 +6,7 @@ use ranking::ordering::Order;
 mod making;
 
 /// The free links by rank, the ends and roles of all links, and what one pass over them finds.
+// Which table it is of is not kept in it, so each function that reads the table again says by a clause that it is that table's.
 #[derive(Drop)]
 pub struct Solution {
     pub order: Order,

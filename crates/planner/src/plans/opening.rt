@@ -3,7 +3,9 @@ ghost use Rattle.std.specs.Prelude.{◌≡◌};
 ghost use Rattle.planner.specs.Model.{opened};
 ghost use Rattle.planner.specs.Modelled.{model_of};
 
-use super::{Change, DEEPEST, Plan};
+use super::{Change, Plan};
+use crate::lending::Lent;
+use arrayvec::ArrayVec;
 use price::PriceKind;
 use table::links::Link;
 
@@ -20,14 +22,11 @@ impl<'a, K: PriceKind> Plan<'a, K> {
     {
         *budget = K::zero();
         Plan {
-            pool,
-            trail,
+            pool: Lent::new(pool),
+            trail: Lent::new(trail),
             budget,
             points: 1,
-            count: 0,
-            lines: 0,
-            depth: 0,
-            starts: [0; DEEPEST],
+            starts: ArrayVec::new(),
             number,
         }
     }

@@ -3,7 +3,7 @@ ghost use Rattle.std.specs.Prelude.{◌≡◌};
 ghost use Rattle.planner.specs.Model.{after_begin, trial_of};
 ghost use Rattle.planner.specs.Modelled.{model_of};
 
-use super::{DEEPEST, Plan};
+use super::Plan;
 use crate::trials::Trial;
 use table::refusals::PlanFault;
 
@@ -14,14 +14,12 @@ impl<'a, K> Plan<'a, K> {
         ensures model { model_of self.new ≡ after_begin (model_of self.old) }
         ensures number { self.new.number ≡ self.old.number }
     {
-        if self.depth >= DEEPEST {
-            return Err(PlanFault::TooDeep);
-        }
-        self.starts[self.depth] = self.lines;
-        self.depth += 1;
+        self.starts
+            .try_push(self.trail.len())
+            .map_err(|_| PlanFault::TooDeep)?;
         Ok(Trial {
             plan: self.number,
-            depth: self.depth,
+            depth: self.starts.len(),
         })
     }
 }

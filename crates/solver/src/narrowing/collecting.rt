@@ -1,43 +1,34 @@
 //! The free links between different parts.
-ghost use Rattle.std.specs.Prelude.{◌≡◌, ◌≤◌, take, slice_index};
+ghost use Rattle.std.specs.Prelude.{◌≡◌};
 ghost use Rattle.table.specs.Narrowed.{numbers_of};
-ghost use Rattle.solver.specs.Narrowing.{apart_in};
+ghost use Rattle.forest.specs.Readings.{count_of};
+ghost use Rattle.solver.specs.Narrowing.{are_apart, apart_in};
 
-use forest::networks::{LINKS, Network, POINTS};
+use super::parts::Parts;
+use arrayvec::ArrayVec;
+use forest::networks::ends::Ends;
+use forest::networks::{LINKS, Network};
 use table::marks::Role;
 
-// The part of a point, and 0 past the most points.
-pub(super) fn part_of(parts: &[u16; POINTS], point: u16) -> u16
-    ensures { result ≡ slice_index parts.now point }
-{
-    if point as usize >= POINTS {
-        return 0;
+impl Parts {
+    // Whether a link is free and between different parts.
+    fn are_apart(&self, link: Ends) -> bool
+        ensures { result ≡ are_apart self.now.numbers.items link }
+    {
+        link.role == Role::Free && self.part_of(link.first) != self.part_of(link.second)
     }
-    parts[point as usize]
-}
 
-// Whether a link is free and between different parts.
-fn is_apart(network: &Network, parts: &[u16; POINTS], link: u16) -> bool
-    ensures { result ≡ apart_in network.now parts.now link }
-{
-    match network.role(link) {
-        Role::Free => part_of(parts, network.first(link)) != part_of(parts, network.second(link)),
-        Role::Kept => false,
-        Role::Barred => false,
-    }
-}
-
-// Writes the numbers of the free links between different parts, and answers how many there are.
-pub(super) fn collect(network: &Network, parts: &[u16; POINTS], numbers: &mut [u16; LINKS]) -> usize
-    ensures short { result ≤ 2048 }
-    ensures front { take result numbers.new ≡ numbers_of network.now.count (apart_in network.now parts.now) }
-{
-    let mut count = 0;
-    for i in 0..network.count() {
-        if is_apart(network, parts, i as u16) {
-            numbers[count] = i as u16;
-            count += 1;
+    // The numbers of the free links between different parts.
+    // An order's links are collected by asking a table by number, these by going over a slice: each is plainer than a shared loop.
+    pub(super) fn collect(&self, network: &Network) -> ArrayVec<u16, LINKS>
+        ensures { result.items ≡ numbers_of (count_of network.now) (apart_in network.now self.now.numbers.items) }
+    {
+        let mut numbers = ArrayVec::new();
+        for (number, link) in network.links().iter().enumerate() {
+            if self.are_apart(*link) {
+                numbers.push(number as u16);
+            }
         }
+        numbers
     }
-    count
 }

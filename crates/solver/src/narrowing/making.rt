@@ -3,13 +3,11 @@ ghost use Rattle.table.specs.Table.{Lawful};
 ghost use Rattle.solver.specs.Narrowing.{NarrowingMade};
 
 use super::Narrowing;
-use super::collecting::collect;
-use super::numbering::number_parts;
+use super::parts::Parts;
 use forest::growing::keep_all;
-use forest::networks::{LINKS, Network, POINTS};
+use forest::networks::Network;
 use price::PriceKind;
 use ranking::totals::tree_total;
-use spanning::components::Components;
 use table::LinkTable;
 use table::refusals::PlanFault;
 
@@ -20,22 +18,17 @@ impl<'a, K: PriceKind, L: LinkTable<K>> Narrowing<'a, K, L> {
         ensures { Lawful K.PriceKind.operations (L.LinkTable.meaning table.now) → NarrowingMade K.PriceKind.operations L.LinkTable.meaning table.now result }
     {
         let network = Network::of(table);
-        let mut roots = Components::new();
-        let mut kept = [false; LINKS];
-        if keep_all(&network, &mut roots, &mut kept).is_some() {
+        let mut kept = keep_all(&network);
+        if kept.ring.is_some() {
             return Err(PlanFault::Ring);
         }
-        let mut parts = [0; POINTS];
-        let points = number_parts(&mut roots, network.points(), &mut parts);
-        let mut numbers = [0; LINKS];
-        let count = collect(&network, &parts, &mut numbers);
+        let parts = Parts::of(&mut kept.parts, network.points());
+        let numbers = parts.collect(&network);
         Ok(Narrowing {
             table,
-            points,
             parts,
-            count,
             numbers,
-            carried: tree_total(table, &kept),
+            carried: tree_total(table, &kept.tree),
         })
     }
 }
