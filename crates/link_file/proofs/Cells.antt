@@ -1,7 +1,7 @@
 -- Bytes by their places, and numbers of two bytes.
-use Rattle.std.proofs.Common.{◌≡◌, ℕ, zero, suc, ◌+◌, ◌*◌, ◌/◌, ◌%◌, ◌<◌, ◌≤◌, List, [], ◌∷◌, ◌++◌, length, get_or, drop, sym, refl, ap, ◌∙◌, add-zero, arith}
-use Rattle.std.proofs.lemmas.List.{drop_more}
-use Rattle.link_file.specs.Format.{bytes16, four}
+use Rattle.std.proofs.Common.{◌≡◌, ℕ, zero, suc, ◌+◌, ◌*◌, ◌/◌, ◌%◌, ◌<◌, ◌≤◌, List, [], ◌∷◌, ◌++◌, length, get_or, take, drop, sym, refl, ap, ◌∙◌, add-zero, arith}
+use Rattle.std.proofs.lemmas.List.{drop_more, get_or-take, append-nil}
+use Rattle.link_file.specs.Format.{record_length, bytes16, four}
 
 -- n bytes from place i on
 abbrev pub cells : List ℕ → ℕ → ℕ → List ℕ
@@ -16,6 +16,18 @@ cells_drop bs (suc n) i h =
     let m : i + 1 + n ≤ length bs = omega arith in
     drop_more bs i 0 k
     ∙ ap (λ t. get_or bs i 0 ∷ t) (cells_drop bs n (i + 1) m ∙ ap (λ j. cells bs (i + 1) n ++ drop j bs) e)
+
+-- a function that reads no further than a record's end is the same of the record alone
+cells_cut : (bs : List ℕ) (n i k : ℕ) → i + n ≤ k → cells (take k bs) i n ≡ cells bs i n
+cells_cut bs zero i k h = refl
+cells_cut bs (suc n) i k h =
+    let e : get_or (take k bs) i 0 ≡ get_or bs i 0 = get_or-take k bs i 0 (omega arith) in
+    let t : cells (take k bs) (i + 1) n ≡ cells bs (i + 1) n = cells_cut bs n (i + 1) k (omega arith) in
+    cc
+
+pub record_alone : {X : Type 0} (F : List ℕ → X) → ((bs : List ℕ) → F bs ≡ F (cells bs 0 record_length)) → (bs : List ℕ) → F (take record_length bs) ≡ F bs
+record_alone F reads bs =
+    reads (take record_length bs) ∙ ap F (cells_cut bs record_length 0 record_length (omega arith)) ∙ sym (reads bs)
 
 -- two bytes and their number
 pub pair_of_number : (a b : ℕ) → a < 256 → b < 256 → bytes16 (a * 256 + b) ≡ a ∷ b ∷ []
@@ -37,25 +49,4 @@ four_in_front (a ∷ b ∷ c ∷ d ∷ []) ys h = refl
 four_in_front (a ∷ b ∷ c ∷ d ∷ e ∷ xs) ys h = absurd (omega (arith, h))
 
 pub four_whole : (xs : List ℕ) → length xs ≡ 4 → four xs 0 ≡ xs
-four_whole [] h = absurd (omega (arith, h))
-four_whole (a ∷ []) h = absurd (omega (arith, h))
-four_whole (a ∷ b ∷ []) h = absurd (omega (arith, h))
-four_whole (a ∷ b ∷ c ∷ []) h = absurd (omega (arith, h))
-four_whole (a ∷ b ∷ c ∷ d ∷ []) h = refl
-four_whole (a ∷ b ∷ c ∷ d ∷ e ∷ xs) h = absurd (omega (arith, h))
-
--- a record, byte by byte
-pub record_list : (xs ys form price : List ℕ) (m n a b c d : ℕ) → xs ≡ a ∷ b ∷ [] → ys ≡ c ∷ d ∷ [] → m ≡ n → four form 0 ≡ price → 9 ∷ get_or xs 0 0 ∷ get_or xs 1 0 ∷ get_or ys 0 0 ∷ get_or ys 1 0 ∷ m ∷ four form 0 ≡ 9 ∷ a ∷ b ∷ c ∷ d ∷ n ∷ price
-record_list xs ys form price m n a b c d p q e r =
-    ap (λ l. 9 ∷ get_or l 0 0 ∷ get_or l 1 0 ∷ get_or ys 0 0 ∷ get_or ys 1 0 ∷ m ∷ four form 0) p
-    ∙ ap (λ l. 9 ∷ a ∷ b ∷ get_or l 0 0 ∷ get_or l 1 0 ∷ m ∷ four form 0) q
-    ∙ ap (λ k. 9 ∷ a ∷ b ∷ c ∷ d ∷ k ∷ four form 0) e
-    ∙ ap (λ l. 9 ∷ a ∷ b ∷ c ∷ d ∷ n ∷ l) r
-
--- a header, byte by byte
-pub header_list : (size points form budget : List ℕ) (m n a b c d e f g h i j : ℕ) → size ≡ a ∷ b ∷ c ∷ d ∷ e ∷ f ∷ g ∷ h ∷ [] → m ≡ n → points ≡ i ∷ j ∷ [] → four form 0 ≡ budget → 1 ∷ get_or size 4 0 ∷ get_or size 5 0 ∷ get_or size 6 0 ∷ get_or size 7 0 ∷ m ∷ get_or points 0 0 ∷ get_or points 1 0 ∷ four form 0 ≡ 1 ∷ e ∷ f ∷ g ∷ h ∷ n ∷ i ∷ j ∷ budget
-header_list size points form budget m n a b c d e f g h i j p q r s =
-    ap (λ l. 1 ∷ get_or l 4 0 ∷ get_or l 5 0 ∷ get_or l 6 0 ∷ get_or l 7 0 ∷ m ∷ get_or points 0 0 ∷ get_or points 1 0 ∷ four form 0) p
-    ∙ ap (λ k. 1 ∷ e ∷ f ∷ g ∷ h ∷ k ∷ get_or points 0 0 ∷ get_or points 1 0 ∷ four form 0) q
-    ∙ ap (λ l. 1 ∷ e ∷ f ∷ g ∷ h ∷ n ∷ get_or l 0 0 ∷ get_or l 1 0 ∷ four form 0) r
-    ∙ ap (λ l. 1 ∷ e ∷ f ∷ g ∷ h ∷ n ∷ i ∷ j ∷ l) s
+four_whole xs h = ap (λ t. four t 0) (sym (append-nil xs)) ∙ four_in_front xs [] h

@@ -1,45 +1,23 @@
 -- What passes the check is lawful, and written again it gives the same bytes.
-use Rattle.std.proofs.Common.{◌≡◌, ℕ, zero, suc, ◌+◌, ◌-◌, ◌*◌, ◌/◌, ◌%◌, ◌<◌, ◌≤◌, Bool, true, false, not, ◌&&◌, ◌||◌, T, eqb, ltb, List, [], ◌∷◌, ◌++◌, length, get_or, drop, is_some, Some, None, Option, unwrap_or, sym, refl, ap, ◌∙◌, subst, arith}
-use Rattle.std.proofs.lemmas.List.{get_or-drop, length-drop, drop-drop}
+use Rattle.std.proofs.Common.{◌≡◌, ℕ, zero, suc, ◌+◌, ◌-◌, ◌*◌, ◌%◌, ◌<◌, ◌≤◌, Bool, true, false, not, ◌&&◌, T, eqb, ltb, List, [], ◌∷◌, ◌++◌, length, map, get_or, take, drop, is_some, Some, None, Ok, Option, unwrap_or, sym, refl, ap, ◌∙◌, subst, arith}
+use Rattle.std.proofs.lemmas.List.{get_or-drop, length-drop}
+use Rattle.std.proofs.lemmas.Bool.{not-false, or_parts, and_parts, eqb-true, eqb-false, ltb-true, ltb-false}
 use Rattle.std.specs.List.{slice_get, flat_map}
+use Rattle.std.specs.Simd.{first_chunks}
 use Rattle.price.specs.Kind.{Operations}
 use Rattle.price.specs.Kind.TotalOf.{none}
 use Rattle.price.specs.Forms.{Forms, Storable, Tied, Four, number32, bytes32}
 use Rattle.price.specs.FourBytes.{bytes_of_number}
 use Rattle.table.specs.Marks.{mark_number, mark_of}
-use Rattle.table.specs.Table.{Table, Lawful, LawfulLink, most_points}
+use Rattle.table.specs.Table.{Lawful, LawfulLink, most_points}
 use Rattle.table.specs.declared.links.Link.{Link}
 use Rattle.table.specs.declared.marks.Mark.TheVariants.{Free}
-use Rattle.link_file.specs.Check.{first_fault, ends_wrong, frame_cases, content_cases, record_cases, records_cases, longest_file, shortest_file}
-use Rattle.link_file.specs.Format.{header_length, record_length, record_count, number16, bytes16, four, record_bytes, header_bytes, file_bytes, link_at, links_of, file_table, file_budget}
+use Rattle.link_file.specs.Check.{first_fault, ends_wrong, header_cases, record_cases, records_cases, cases_of_records, answer, longest_file, shortest_file}
+use Rattle.link_file.specs.Format.{header_length, record_length, record_count, records_of, number16, bytes16, four, record_bytes, header_bytes, file_bytes, link_at, links_of, file_table, file_budget}
 use Rattle.link_file.specs.Reading.{reader_table, Filled}
 use Rattle.link_file.specs.declared.input.Reader.{Reader}
-use Rattle.link_file.proofs.Cells.{cells, cells_drop, pair_of_number}
-use Rattle.link_file.proofs.Faults.{append_none, none_left, none_apply}
-
-not_false : (b : Bool) → not b ≡ false → b ≡ true
-not_false true h = refl
-not_false false h = let z : ◌≡◌ {A = ℕ} 0 1 = cc in absurd (omega arith)
-
-or_false : (a b : Bool) → (a || b) ≡ false → (a ≡ false) × (b ≡ false)
-or_false true b h = let z : ◌≡◌ {A = ℕ} 0 1 = cc in absurd (omega arith)
-or_false false b h = (refl, h)
-
-and_true : (a b : Bool) → (a && b) ≡ true → (a ≡ true) × (b ≡ true)
-and_true true b h = (refl, h)
-and_true false b h = let z : ◌≡◌ {A = ℕ} 0 1 = cc in absurd (omega arith)
-
-eq_from : (m n : ℕ) → not (eqb m n) ≡ false → m ≡ n
-eq_from m n h = grind arith
-
-lt_from : (m n : ℕ) → ltb m n ≡ true → m < n
-lt_from m n h = grind arith
-
-le_from : (m n : ℕ) → ltb m n ≡ false → n ≤ m
-le_from m n h = grind arith
-
-apart_from : (m n : ℕ) → eqb m n ≡ false → m ≡ n → ⊥
-apart_from m n h e = grind arith
+use Rattle.link_file.proofs.Cells.{cells, cells_drop, pair_of_number, record_alone}
+use Rattle.link_file.proofs.Faults.{append_none, none_left, none_apply, same_faults, answer_ok}
 
 mark_back : (n : ℕ) → n ≤ 2 → mark_number (unwrap_or (mark_of n) Free) ≡ n
 mark_back zero h = refl
@@ -47,28 +25,23 @@ mark_back (suc zero) h = refl
 mark_back (suc (suc zero)) h = refl
 mark_back (suc (suc (suc n))) h = absurd (omega arith)
 
-positive : (n : ℕ) → (n ≡ 0 → ⊥) → 1 ≤ n
-positive zero h = absurd (h refl)
-positive (suc n) h = omega arith
-
-field_is : (n count m : ℕ) → m ≡ n - 5 → n ≡ 12 + 10 * count → 7 + 10 * count ≡ m
-field_is n count m e d = omega arith
-
-none_carried : (n : ℕ) → n ≤ 1024 → 0 + n ≤ 1024
-none_carried n h = omega arith
-
-few_links : (n count m : ℕ) → n ≤ 20492 → n ≡ 12 + 10 * count → m ≡ count → m ≤ 2048
-few_links n count m h e d = omega arith
-
-pub length_links : {K : Type 0} (f : Forms K) (nothing : K) (n : ℕ) (bs : List ℕ) → length (links_of f nothing n bs) ≡ n
+length_links : {K : Type 0} (f : Forms K) (nothing : K) (n : ℕ) (bs : List ℕ) → length (links_of f nothing n bs) ≡ n
 length_links f nothing zero bs = refl
 length_links f nothing (suc n) bs = ap suc (length_links f nothing n (drop record_length bs))
+
+-- the records of a file have the links that the file has
+links_alone : {K : Type 0} (f : Forms K) (nothing : K) (n : ℕ) (bs : List ℕ) → map (link_at f nothing) (first_chunks record_length n bs) ≡ links_of f nothing n bs
+links_alone f nothing zero bs = refl
+links_alone f nothing (suc n) bs =
+    let head : link_at f nothing (take record_length bs) ≡ link_at f nothing bs = record_alone (link_at f nothing) (λ _. refl) bs in
+    let rest = links_alone f nothing n (drop record_length bs) in
+    cc
 
 module _ {K : Type 0} (o : Operations K) (f : Forms K) (storable : Storable o f) where
   -- a form that is some amount's
   module _ (admitted : K → Bool) (form : K → List ℕ) (reads : List ℕ → Option K) (tied : Tied admitted form reads) (nothing : K) where
     some_form : (bs : List ℕ) (r : Option K) → Four bs → reads bs ≡ r → is_some r ≡ true → T (admitted (unwrap_or r nothing)) × (form (unwrap_or r nothing) ≡ bs)
-    some_form bs None fours e h = let z : ◌≡◌ {A = ℕ} 0 1 = cc in absurd (omega arith)
+    some_form bs None fours e h = cc
     some_form bs (Some x) fours e h = tied.sole bs x fours e
 
   four_at : (bs : List ℕ) (at : ℕ) → ((k : ℕ) → get_or bs k 0 < 256) → (k : ℕ) → get_or (four bs at) k 0 < 256
@@ -82,56 +55,56 @@ module _ {K : Type 0} (o : Operations K) (f : Forms K) (storable : Storable o f)
   four_small bs at small = record { four = refl; small = four_at bs at small }
 
   -- what the cases of a record say where none applies
-  pub record Right (points : ℕ) (bs : List ℕ) : Type 0 where
-    pub nine : get_or bs 0 0 ≡ 9
-    pub ends : ends_wrong points (number16 bs 1) (number16 bs 3) ≡ false
-    pub marked : get_or bs 5 0 ≤ 2
-    pub priced : is_some (f.price_of (four bs 6)) ≡ true
+  record Right (points : ℕ) (bs : List ℕ) : Type 0 where
+    nine : get_or bs 0 0 ≡ 9
+    ends : ends_wrong points (number16 bs 1) (number16 bs 3) ≡ false
+    marked : get_or bs 5 0 ≤ 2
+    priced : is_some (f.price_of (four bs 6)) ≡ true
 
-  pub right_from : (points at : ℕ) (bs : List ℕ) → first_fault (record_cases f points at bs) ≡ None → Right points bs
+  right_from : (points at : ℕ) (bs : List ℕ) → first_fault (record_cases f points at bs) ≡ None → Right points bs
   right_from points at bs h =
       let a = none_apply (record_cases f points at bs) h in
       record {
-        nine = eq_from (get_or bs 0 0) 9 a.0;
+        nine = eqb-true (get_or bs 0 0) 9 (not-false _ a.0);
         ends = a.1.0;
-        marked = le_from 2 (get_or bs 5 0) a.1.1.0;
-        priced = not_false (is_some (f.price_of (four bs 6))) a.1.1.1.0;
+        marked = ltb-false 2 (get_or bs 5 0) a.1.1.0;
+        priced = not-false _ a.1.1.1.0;
       }
 
   module _ (points : ℕ) (bs : List ℕ) (small : (k : ℕ) → get_or bs k 0 < 256) (right : Right points bs) where
     price_form_lem : T (o.price (link_at f o.zero bs).price) × (f.price_form (link_at f o.zero bs).price ≡ four bs 6)
     price_form_lem = some_form o.price f.price_form f.price_of storable.prices o.zero (four bs 6) (f.price_of (four bs 6)) (four_small bs 6 small) refl right.priced
 
-    pub record_lawful : LawfulLink o points (link_at f o.zero bs)
+    record_lawful : LawfulLink o points (link_at f o.zero bs)
     record_lawful =
-        let e = or_false (not (ltb (number16 bs 1) points && ltb (number16 bs 3) points)) (eqb (number16 bs 1) (number16 bs 3)) right.ends in
-        let b = and_true (ltb (number16 bs 1) points) (ltb (number16 bs 3) points) (not_false _ e.0) in
+        let e = or_parts (not (ltb (number16 bs 1) points && ltb (number16 bs 3) points)) (eqb (number16 bs 1) (number16 bs 3)) right.ends in
+        let b = and_parts (ltb (number16 bs 1) points) (ltb (number16 bs 3) points) (not-false _ e.0) in
         record {
-          first_below = lt_from (number16 bs 1) points b.0;
-          second_below = lt_from (number16 bs 3) points b.1;
-          apart = apart_from (number16 bs 1) (number16 bs 3) e.1;
+          first_below = ltb-true (number16 bs 1) points b.0;
+          second_below = ltb-true (number16 bs 3) points b.1;
+          apart = eqb-false (number16 bs 1) (number16 bs 3) e.1;
           priced = price_form_lem.0;
         }
 
-    pub record_again : record_bytes f (link_at f o.zero bs) ≡ cells bs 0 10
+    record_again : record_bytes f (link_at f o.zero bs) ≡ cells bs 0 10
     record_again =
         let a = pair_of_number (get_or bs 1 0) (get_or bs 2 0) (small 1) (small 2) in
         let b = pair_of_number (get_or bs 3 0) (get_or bs 4 0) (small 3) (small 4) in
         let m = mark_back (get_or bs 5 0) right.marked in
         let p = price_form_lem.1 in
         let n = right.nine in
-        ap (λ x. x) (ap (λ t. 9 ∷ bytes16 (number16 bs 1) ++ bytes16 (number16 bs 3) ++ (mark_number (unwrap_or (mark_of (get_or bs 5 0)) Free) ∷ t)) p
+        ap (λ t. 9 ∷ bytes16 (number16 bs 1) ++ bytes16 (number16 bs 3) ++ (mark_number (unwrap_or (mark_of (get_or bs 5 0)) Free) ∷ t)) p
         ∙ ap (λ t. 9 ∷ bytes16 (number16 bs 1) ++ bytes16 (number16 bs 3) ++ (t ∷ four bs 6)) m
         ∙ ap (λ t. 9 ∷ bytes16 (number16 bs 1) ++ t ++ (get_or bs 5 0 ∷ four bs 6)) b
         ∙ ap (λ t. 9 ∷ t ++ (get_or bs 3 0 ∷ get_or bs 4 0 ∷ []) ++ (get_or bs 5 0 ∷ four bs 6)) a
-        ∙ ap (λ t. t ∷ get_or bs 1 0 ∷ get_or bs 2 0 ∷ get_or bs 3 0 ∷ get_or bs 4 0 ∷ get_or bs 5 0 ∷ four bs 6) (sym n))
+        ∙ ap (λ t. t ∷ get_or bs 1 0 ∷ get_or bs 2 0 ∷ get_or bs 3 0 ∷ get_or bs 4 0 ∷ get_or bs 5 0 ∷ four bs 6) (sym n)
 
   small_drop : (n : ℕ) (bs : List ℕ) → ((k : ℕ) → get_or bs k 0 < 256) → (k : ℕ) → get_or (drop n bs) k 0 < 256
   small_drop n bs small k = rw get_or-drop (small (n + k))
 
   -- all records
-  pub records_lawful : (points n at : ℕ) (bs : List ℕ) → ((k : ℕ) → get_or bs k 0 < 256) → first_fault (records_cases f points n at bs) ≡ None → (i : ℕ) (l : Link K) → slice_get (links_of f o.zero n bs) i ≡ Some l → LawfulLink o points l
-  records_lawful points zero at bs small h i l e = let z : ◌≡◌ {A = ℕ} 0 1 = cc in absurd (omega arith)
+  records_lawful : (points n at : ℕ) (bs : List ℕ) → ((k : ℕ) → get_or bs k 0 < 256) → first_fault (records_cases f points n at bs) ≡ None → (i : ℕ) (l : Link K) → slice_get (links_of f o.zero n bs) i ≡ Some l → LawfulLink o points l
+  records_lawful points zero at bs small h i l e = cc
   records_lawful points (suc n) at bs small h zero l e =
       let here = right_from points at bs (none_left (record_cases f points at bs) (records_cases f points n (at + record_length) (drop record_length bs)) h) in
       let same : link_at f o.zero bs ≡ l = cc in
@@ -141,7 +114,7 @@ module _ {K : Type 0} (o : Operations K) (f : Forms K) (storable : Storable o f)
       let rest = sym (append_none (record_cases f points at bs) (records_cases f points n (at + record_length) (drop record_length bs)) front) ∙ h in
       records_lawful points n (at + record_length) (drop record_length bs) (small_drop record_length bs small) rest i l e
 
-  pub records_again : (points n at : ℕ) (bs : List ℕ) → ((k : ℕ) → get_or bs k 0 < 256) → length bs ≡ record_length * n → first_fault (records_cases f points n at bs) ≡ None → flat_map (record_bytes f) (links_of f o.zero n bs) ≡ bs
+  records_again : (points n at : ℕ) (bs : List ℕ) → ((k : ℕ) → get_or bs k 0 < 256) → length bs ≡ record_length * n → first_fault (records_cases f points n at bs) ≡ None → flat_map (record_bytes f) (links_of f o.zero n bs) ≡ bs
   records_again points zero at [] small long h = refl
   records_again points zero at (b ∷ bs) small long h = absurd (omega (arith, long))
   records_again points (suc n) at bs small long h =
@@ -154,39 +127,37 @@ module _ {K : Type 0} (o : Operations K) (f : Forms K) (storable : Storable o f)
       ∙ sym (cells_drop bs 10 0 enough)
 
   -- what the cases of the whole say where none applies
-  pub record Header (bs : List ℕ) : Type 0 where
-    pub long : shortest_file ≤ length bs
-    pub short : length bs ≤ longest_file
-    pub version : get_or bs 0 0 ≡ 1
-    pub field : number32 (four bs 1) ≡ length bs - 5
-    pub kind : get_or bs 5 0 ≡ f.code
-    pub some : 1 ≤ number16 bs 6
-    pub few : number16 bs 6 ≤ most_points
-    pub budgeted : is_some (f.budget_of (four bs 8)) ≡ true
-    pub records : length bs ≡ header_length + record_length * record_count bs
+  record Header (bs : List ℕ) : Type 0 where
+    long : shortest_file ≤ length bs
+    short : length bs ≤ longest_file
+    version : get_or bs 0 0 ≡ 1
+    field : number32 (four bs 1) ≡ length bs - 5
+    kind : get_or bs 5 0 ≡ f.code
+    some : 1 ≤ number16 bs 6
+    few : number16 bs 6 ≤ most_points
+    budgeted : is_some (f.budget_of (four bs 8)) ≡ true
+    records : length bs ≡ header_length + record_length * record_count bs
 
-  whole : (n m : ℕ) → m ≡ n - 5 → 12 ≤ n → (m - 7) % 10 ≡ 0 → n ≡ 12 + 10 * ((n - 12) / 10)
-  whole n m e h d = omega arith
-
-  pub header_from : (bs : List ℕ) → first_fault (frame_cases f bs) ≡ None → first_fault (content_cases f bs) ≡ None → Header bs
-  header_from bs h k =
-      let a = none_apply (frame_cases f bs) h in
-      let b = none_apply (content_cases f bs) k in
-      let size = or_false (ltb (length bs) shortest_file) (ltb longest_file (length bs)) a.0 in
-      let count = or_false (eqb (number16 bs 6) 0) (ltb most_points (number16 bs 6)) b.0 in
-      let long = le_from (length bs) shortest_file size.0 in
-      let field = eq_from (number32 (four bs 1)) (length bs - 5) a.1.1.0 in
-      let some = apart_from (number16 bs 6) 0 count.0 in
+  header_from : (bs : List ℕ) → first_fault (header_cases f bs) ≡ None → Header bs
+  header_from bs h =
+      let a = none_apply (header_cases f bs) h in
+      let b = a.1.1.1.1 in
+      let size = or_parts (ltb (length bs) shortest_file) (ltb longest_file (length bs)) a.0 in
+      let count = or_parts (eqb (number16 bs 6) 0) (ltb most_points (number16 bs 6)) b.0 in
+      let long : shortest_file ≤ length bs = ltb-false (length bs) shortest_file size.0 in
+      let field : number32 (four bs 1) ≡ length bs - 5 = eqb-true _ _ (not-false _ a.1.1.0) in
+      let apart : number16 bs 6 ≡ 0 → ⊥ = eqb-false (number16 bs 6) 0 count.0 in
+      let divided : (number32 (four bs 1) - 7) % record_length ≡ 0 = eqb-true _ _ (not-false _ b.1.1.0) in
       record {
         long = long;
-        short = le_from longest_file (length bs) size.1;
-        version = eq_from (get_or bs 0 0) 1 a.1.0;
+        short = ltb-false longest_file (length bs) size.1;
+        version = eqb-true (get_or bs 0 0) 1 (not-false _ a.1.0);
         field = field;
-        kind = eq_from (get_or bs 5 0) f.code a.1.1.1.0;
-        some = positive (number16 bs 6) some;
-        few = le_from most_points (number16 bs 6) count.1;
-        budgeted = not_false (is_some (f.budget_of (four bs 8))) b.1.0;
-        records = whole (length bs) (number32 (four bs 1)) field long (eq_from ((number32 (four bs 1) - 7) % record_length) 0 b.1.1.0);
+        kind = eqb-true (get_or bs 5 0) f.code (not-false _ a.1.1.1.0);
+        some = omega arith;
+        few = ltb-false most_points (number16 bs 6) count.1;
+        budgeted = not-false _ b.1.0;
+        records = omega arith;
       }
 
   module _ (bs : List ℕ) (small : (k : ℕ) → get_or bs k 0 < 256) (header : Header bs) where
@@ -195,7 +166,7 @@ module _ {K : Type 0} (o : Operations K) (f : Forms K) (storable : Storable o f)
 
     header_again : header_bytes f (record_count bs) (number16 bs 6) (file_budget f o.zero bs) ≡ cells bs 0 12
     header_again =
-        let size : 7 + record_length * record_count bs ≡ number32 (four bs 1) = field_is (length bs) (record_count bs) (number32 (four bs 1)) header.field header.records in
+        let size : 7 + record_length * record_count bs ≡ number32 (four bs 1) = omega arith in
         let n = bytes_of_number (four bs 1) (four_small bs 1 small) in
         let p = pair_of_number (get_or bs 6 0) (get_or bs 7 0) (small 6) (small 7) in
         ap (λ t. 1 ∷ bytes32 (7 + record_length * record_count bs) ++ (f.code ∷ bytes16 (number16 bs 6)) ++ t) budget_form_lem.1
@@ -206,18 +177,18 @@ module _ {K : Type 0} (o : Operations K) (f : Forms K) (storable : Storable o f)
         ∙ ap (λ t. t ∷ four bs 1 ++ (get_or bs 5 0 ∷ get_or bs 6 0 ∷ get_or bs 7 0 ∷ []) ++ four bs 8) (sym header.version)
 
     module _ (right : first_fault (records_cases f (number16 bs 6) (record_count bs) header_length (drop header_length bs)) ≡ None) where
-      pub file_lawful : Lawful o (file_table f o.zero bs)
+      file_lawful : Lawful o (file_table f o.zero bs)
       file_lawful = record {
         at_least_one = header.some;
         few = header.few;
-        short = few_links (length bs) (record_count bs) (length (links_of f o.zero (record_count bs) (drop header_length bs))) header.short header.records (length_links f o.zero (record_count bs) (drop header_length bs));
+        short = omega (arith, length_links f o.zero (record_count bs) (drop header_length bs));
         each = records_lawful (number16 bs 6) (record_count bs) header_length (drop header_length bs) (small_drop header_length bs small) right;
         carries = 0;
         total = none;
-        bounded = none_carried (number16 bs 6) header.few;
+        bounded = omega arith;
       }
 
-      pub file_again : file_bytes f (file_table f o.zero bs) (file_budget f o.zero bs) ≡ bs
+      file_again : file_bytes f (file_table f o.zero bs) (file_budget f o.zero bs) ≡ bs
       file_again =
           let rest : length (drop header_length bs) ≡ record_length * record_count bs = rw length-drop (omega (arith, header.records)) in
           let enough : 0 + 12 ≤ length bs = header.long in
@@ -226,38 +197,25 @@ module _ {K : Type 0} (o : Operations K) (f : Forms K) (storable : Storable o f)
           ∙ ap (λ t. cells bs 0 12 ++ t) (records_again (number16 bs 6) (record_count bs) header_length (drop header_length bs) (small_drop header_length bs small) rest right)
           ∙ sym (cells_drop bs 12 0 enough)
 
-      pub budget_admitted : T (o.budget (file_budget f o.zero bs))
+      budget_admitted : T (o.budget (file_budget f o.zero bs))
       budget_admitted = budget_form_lem.0
 
-  abbrev with_points : List ℕ → ℕ → Table K
-  with_points bs p = record { points = p; links = links_of f o.zero (record_count bs) (drop header_length bs); carried = o.zero }
-
-  -- a reader that holds these bytes, with the points and the budget that they give
-  pub filled : (r : Reader K) → ((k : ℕ) → get_or r.bytes.now k 0 < 256) → first_fault (frame_cases f r.bytes.now) ≡ None → first_fault (content_cases f r.bytes.now) ≡ None → first_fault (records_cases f r.points (record_count r.bytes.now) header_length (drop header_length r.bytes.now)) ≡ None → r.points ≡ number16 r.bytes.now 6 → f.budget_of (four r.bytes.now 8) ≡ Some r.budget → Filled o f r r.bytes.now
-  filled r small frame content right points budget =
-      let bs = r.bytes.now in
-      let header = header_from bs frame content in
-      let records = subst (λ p. first_fault (records_cases f p (record_count bs) header_length (drop header_length bs)) ≡ None) points right in
-      let table : reader_table o f r ≡ file_table f o.zero bs = ap (λ p. with_points bs p) points in
+  -- a reader with what the check read of these bytes
+  pub filled : (r : Reader K) (bs : List ℕ) → ((k : ℕ) → get_or bs k 0 < 256) → r.records.now ≡ records_of bs → r.points ≡ number16 bs 6 → f.budget_of (four bs 8) ≡ Some r.budget → first_fault (header_cases f bs) ≡ None → Ok tt ≡ answer (first_fault (cases_of_records f r.points header_length r.records.now)) → Filled o f r bs
+  filled r bs small records points budget sound passed =
+      let header = header_from bs sound in
+      let right = sym (same_faults f bs r.points r.records.now points records) ∙ answer_ok _ passed in
+      let links : map (link_at f o.zero) r.records.now ≡ links_of f o.zero (record_count bs) (drop header_length bs) = ap (map (link_at f o.zero)) records ∙ links_alone f o.zero (record_count bs) (drop header_length bs) in
+      let table : reader_table o f r ≡ file_table f o.zero bs = cc in
       let limit : r.budget ≡ file_budget f o.zero bs = sym (ap (λ b. unwrap_or b o.zero) budget) in
       record {
-        bytes = refl;
+        records = records;
         table = table;
         budget = limit;
-        lawful = subst (Lawful o) (sym table) (file_lawful bs small header records);
-        admitted = subst (λ b. T (o.budget b)) (sym limit) (budget_admitted bs small header records);
-        again = ap (λ t. file_bytes f t r.budget) table ∙ ap (file_bytes f (file_table f o.zero bs)) limit ∙ file_again bs small header records;
+        lawful = subst (Lawful o) (sym table) (file_lawful bs small header right);
+        admitted = subst (λ b. T (o.budget b)) (sym limit) (budget_admitted bs small header right);
+        again = ap (λ t. file_bytes f t r.budget) table ∙ ap (file_bytes f (file_table f o.zero bs)) limit ∙ file_again bs small header right;
       }
-
--- a link by its record's place
-pub nth_links : {K : Type 0} (f : Forms K) (nothing : K) (n i : ℕ) (bs : List ℕ) → i < n → slice_get (links_of f nothing n bs) i ≡ Some (link_at f nothing (drop (record_length * i) bs))
-nth_links f nothing zero i bs h = absurd (omega arith)
-nth_links f nothing (suc n) zero bs h = refl
-nth_links f nothing (suc n) (suc i) bs h =
-    let e : record_length + record_length * i ≡ record_length * suc i = omega arith in
-    let k : i < n = omega arith in
-    nth_links f nothing n i (drop record_length bs) k
-    ∙ ap (λ t. Some (link_at f nothing t)) (drop-drop (record_length * i) record_length bs ∙ ap (λ m. drop m bs) e)
 
 -- one point and no links
 pub lawful_empty : {K : Type 0} (o : Operations K) → Lawful o (record { points = 1; links = []; carried = o.zero })
@@ -265,7 +223,7 @@ lawful_empty o = record {
   at_least_one = omega arith;
   few = omega arith;
   short = omega arith;
-  each = λ i l e. let z : ◌≡◌ {A = ℕ} 0 1 = cc in absurd (omega arith);
+  each = λ i l e. cc;
   carries = 0;
   total = none;
   bounded = omega arith;

@@ -1,6 +1,7 @@
 -- What is written of a lawful table passes the check, and reads as the same table and budget.
-use Rattle.std.proofs.Common.{◌≡◌, ℕ, suc, ◌+◌, ◌-◌, ◌*◌, ◌/◌, ◌%◌, ◌<◌, ◌≤◌, false, not, ◌||◌, T, eqb, ltb, List, [], ◌∷◌, ◌++◌, length, drop, is_some, Some, None, Ok, Option, Result, unwrap_or, sym, refl, ap, ◌∙◌, arith}
+use Rattle.std.proofs.Common.{◌≡◌, ℕ, suc, ◌+◌, ◌-◌, ◌*◌, ◌/◌, ◌%◌, ◌<◌, ◌≤◌, false, not, ◌||◌, T, eqb, ltb, List, [], ◌∷◌, ◌++◌, length, drop, is_some, Some, None, Ok, Result, unwrap_or, refl, ap, ◌∙◌, arith}
 use Rattle.std.proofs.lemmas.List.{length-append, drop_at}
+use Rattle.std.proofs.lemmas.Bool.{le-ltb, eq-eqb, ne_eqb, or_from}
 use Rattle.std.specs.List.{slice_get, flat_map}
 use Rattle.price.specs.Kind.{Operations}
 use Rattle.price.specs.Forms.{Forms, Storable, number32}
@@ -11,26 +12,14 @@ use Rattle.table.specs.declared.links.Link.{Link}
 use Rattle.table.specs.declared.marks.Mark.{Mark}
 use Rattle.table.specs.declared.marks.Mark.TheVariants.{Free, Kept, Barred}
 use Rattle.table.specs.declared.refusals.FileFault.{FileFault}
-use Rattle.link_file.specs.Check.{first_fault, ends_wrong, frame_cases, content_cases, record_cases, records_cases, checked, longest_file, shortest_file}
+use Rattle.link_file.specs.Check.{first_fault, ends_wrong, frame_cases, content_cases, record_cases, records_cases, file_cases, answer, checked, longest_file, shortest_file}
 use Rattle.link_file.specs.Format.{header_length, record_length, record_count, number16, four, record_bytes, header_bytes, file_bytes, link_at, links_of}
 use Rattle.link_file.specs.Reading.{LawfulFile, Stored}
 use Rattle.link_file.proofs.Cells.{number_of_pair, four_in_front}
-use Rattle.link_file.proofs.Faults.{append_none, none_from, checked_ok}
-
-eq_passes : (m n : ℕ) → m ≡ n → not (eqb m n) ≡ false
-eq_passes m n e = grind arith
-
-lt_fails : (m n : ℕ) → n ≤ m → ltb m n ≡ false
-lt_fails m n h = grind arith
+use Rattle.link_file.proofs.Faults.{append_none, none_from}
 
 ends_right : (points a b : ℕ) → a < points → b < points → (a ≡ b → ⊥) → ends_wrong points a b ≡ false
 ends_right points a b p q apart = grind arith
-
-some_passes : {A : Type 0} (r : Option A) (x : A) → r ≡ Some x → not (is_some r) ≡ false
-some_passes r x e = ap (λ t. not (is_some t)) e
-
-some_value : {A : Type 0} (r : Option A) (x d : A) → r ≡ Some x → unwrap_or r d ≡ x
-some_value r x d e = ap (λ t. unwrap_or t d) e
 
 mark_small : (m : Mark) → mark_number m ≤ 2
 mark_small Free = omega arith
@@ -41,21 +30,6 @@ mark_back : (m : Mark) → unwrap_or (mark_of (mark_number m)) Free ≡ m
 mark_back Free = refl
 mark_back Kept = refl
 mark_back Barred = refl
-
-tenths : (n : ℕ) → (header_length + record_length * n - header_length) / record_length ≡ n
-tenths n = omega arith
-
-after_five : (n : ℕ) → header_length + record_length * n - 5 ≡ 7 + record_length * n
-after_five n = omega arith
-
-size_passes : (n : ℕ) → n ≤ 2048 → (ltb (header_length + record_length * n) shortest_file || ltb longest_file (header_length + record_length * n)) ≡ false
-size_passes n h = grind arith
-
-count_passes : (n : ℕ) → 1 ≤ n → n ≤ most_points → (eqb n 0 || ltb most_points n) ≡ false
-count_passes n h k = grind arith
-
-whole_passes : (n : ℕ) → not (eqb ((7 + record_length * n - 7) % record_length) 0) ≡ false
-whole_passes n = eq_passes ((7 + record_length * n - 7) % record_length) 0 (omega arith)
 
 abbrev link : {K : Type 0} → ℕ → ℕ → Mark → K → Link K
 link a b m p = record { first = a; second = b; mark = m; price = p }
@@ -97,8 +71,8 @@ module _ {K : Type 0} (o : Operations K) (f : Forms K) (storable : Storable o f)
         ap (λ n. ends_wrong points n (number16 here 3)) first_is ∙ ap (λ n. ends_wrong points l.first n) second_is
             ∙ ends_right points l.first l.second lawful.first_below lawful.second_below lawful.apart,
         (
-          lt_fails 2 (mark_number l.mark) (mark_small l.mark),
-          (some_passes (f.price_of (four here 6)) l.price price_is, tt),
+          le-ltb 2 (mark_number l.mark) (mark_small l.mark),
+          (ap (λ r. not (is_some r)) price_is, tt),
         ),
       ),
     )
@@ -108,7 +82,7 @@ module _ {K : Type 0} (o : Operations K) (f : Forms K) (storable : Storable o f)
         ap (λ n. link n (number16 here 3) (unwrap_or (mark_of (mark_number l.mark)) Free) (unwrap_or (f.price_of (four here 6)) nothing)) first_is
         ∙ ap (λ n. link l.first n (unwrap_or (mark_of (mark_number l.mark)) Free) (unwrap_or (f.price_of (four here 6)) nothing)) second_is
         ∙ ap (λ m. link l.first l.second m (unwrap_or (f.price_of (four here 6)) nothing)) (mark_back l.mark)
-        ∙ ap (λ p. link l.first l.second l.mark p) (some_value (f.price_of (four here 6)) l.price nothing price_is)
+        ∙ ap (λ p. link l.first l.second l.mark p) (ap (λ r. unwrap_or r nothing) price_is)
 
     pub drop_record : drop record_length here ≡ rest
     drop_record = drop_at (record_bytes f l) rest record_length (length_record l)
@@ -143,7 +117,7 @@ module _ {K : Type 0} (o : Operations K) (f : Forms K) (storable : Storable o f)
         ∙ omega (arith, length_header links t.points budget, length_joined t.links)
 
     count_is : record_count bytes ≡ links
-    count_is = ap (λ n. (n - header_length) / record_length) length_file ∙ tenths links
+    count_is = ap (λ n. (n - header_length) / record_length) length_file ∙ omega arith
 
     records_are : drop header_length bytes ≡ flat_map (record_bytes f) t.links
     records_are = drop_at (header_bytes f links t.points budget) (flat_map (record_bytes f) t.links) header_length (length_header links t.points budget)
@@ -162,22 +136,22 @@ module _ {K : Type 0} (o : Operations K) (f : Forms K) (storable : Storable o f)
 
       frame_passes : first_fault (frame_cases f bytes) ≡ None
       frame_passes = none_from (frame_cases f bytes) (
-        ap (λ n. ltb n shortest_file || ltb longest_file n) length_file ∙ size_passes links lawful.short,
+        ap (λ n. ltb n shortest_file || ltb longest_file n) length_file ∙ or_from _ _ (le-ltb (header_length + record_length * links) shortest_file (omega arith)) (le-ltb longest_file (header_length + record_length * links) (omega (arith, lawful.short))),
         (
           refl,
           (
-            eq_passes (number32 (four bytes 1)) (length bytes - 5) (field_is ∙ sym (ap (λ n. n - 5) length_file ∙ after_five links)),
-            (eq_passes f.code f.code refl, tt),
+            ap not (eq-eqb (number32 (four bytes 1)) (length bytes - 5) (omega (arith, field_is, length_file))),
+            (ap not (eq-eqb f.code f.code refl), tt),
           ),
         ),
       )
 
       content_passes : first_fault (content_cases f bytes) ≡ None
       content_passes = none_from (content_cases f bytes) (
-        ap (λ n. eqb n 0 || ltb most_points n) points_are ∙ count_passes t.points lawful.at_least_one lawful.few,
+        ap (λ n. eqb n 0 || ltb most_points n) points_are ∙ or_from _ _ (ne_eqb t.points 0 (λ e. omega (arith, e, lawful.at_least_one))) (le-ltb most_points t.points lawful.few),
         (
-          some_passes (f.budget_of (four bytes 8)) budget form_is_budget,
-          (ap (λ n. not (eqb ((n - 7) % record_length) 0)) field_is ∙ whole_passes links, tt),
+          ap (λ r. not (is_some r)) form_is_budget,
+          (ap not (eq-eqb ((number32 (four bytes 1) - 7) % record_length) 0 (omega (arith, field_is))), tt),
         ),
       )
 
@@ -188,15 +162,22 @@ module _ {K : Type 0} (o : Operations K) (f : Forms K) (storable : Storable o f)
           ∙ ap (λ r. first_fault (records_cases f t.points links header_length r)) records_are
           ∙ records_pass t.points header_length t.links lawful.few lawful.each
 
+      -- no case of the whole file applies
+      passes_all : first_fault (file_cases f bytes) ≡ None
+      passes_all =
+          append_none (frame_cases f bytes) (content_cases f bytes ++ records_cases f (number16 bytes 6) (record_count bytes) header_length (drop header_length bytes)) frame_passes
+          ∙ append_none (content_cases f bytes) (records_cases f (number16 bytes 6) (record_count bytes) header_length (drop header_length bytes)) content_passes
+          ∙ rest_passes
+
       pub stored : Stored o f t budget bytes
       stored = record {
-        passes = sym (checked_ok f bytes (number16 bytes 6) refl frame_passes content_passes rest_passes);
+        passes = ap answer passes_all;
         points = points_are;
         links =
             ap (λ n. links_of f o.zero n (drop header_length bytes)) count_is
             ∙ ap (λ r. links_of f o.zero links r) records_are
             ∙ records_read t.points o.zero t.links lawful.few lawful.each;
-        same = some_value (f.budget_of (four bytes 8)) budget o.zero form_is_budget;
+        same = ap (λ r. unwrap_or r o.zero) form_is_budget;
       }
 
   -- bytes that are such a file pass

@@ -1,5 +1,5 @@
 -- The check of a link file: for each refusal when it applies, in order; the first that applies is given.
-use Rattle.std.specs.Prelude.{◌≡◌, ℕ, zero, suc, ◌+◌, ◌-◌, ◌*◌, ◌%◌, ◌≤◌, Bool, cond, not, ◌&&◌, ◌||◌, List, [], ◌∷◌, ◌++◌, length, drop, is_some, Some, None, Ok, Err, Option, Result, ◌==◌, nat_lt, slice_index}
+use Rattle.std.specs.Prelude.{ℕ, zero, suc, ◌+◌, ◌-◌, ◌*◌, ◌%◌, Bool, cond, not, ◌&&◌, ◌||◌, List, [], ◌∷◌, ◌++◌, length, drop, is_some, Some, None, Ok, Err, Option, Result, ◌==◌, nat_lt, slice_index}
 use Rattle.price.specs.Forms.{Forms, number32}
 use Rattle.table.specs.Table.{most_points, most_links}
 use Rattle.table.specs.declared.refusals.FileFault.{FileFault}
@@ -49,6 +49,10 @@ module _ {K : Type 0} (f : Forms K) where
       ∷ (not ((number32 (four bs 1) - 7) % record_length == 0), file.Records)
       ∷ []
 
+  -- the two together: what is judged of a header
+  abbrev pub header_cases : List ℕ → List Case
+  header_cases bs = frame_cases bs ++ content_cases bs
+
   -- the record at the front of bs, which stands at a place of the file
   abbrev pub record_cases : ℕ → ℕ → List ℕ → List Case
   record_cases points at bs =
@@ -63,13 +67,13 @@ module _ {K : Type 0} (f : Forms K) where
   records_cases points zero at bs = []
   records_cases points (suc n) at bs = record_cases points at bs ++ records_cases points n (at + record_length) (drop record_length bs)
 
+  -- the same of records that are cut already
+  abbrev pub cases_of_records : ℕ → ℕ → List (List ℕ) → List Case
+  cases_of_records points at [] = []
+  cases_of_records points at (r ∷ rs) = record_cases points at r ++ cases_of_records points (at + record_length) rs
+
   abbrev pub file_cases : List ℕ → List Case
   file_cases bs = frame_cases bs ++ (content_cases bs ++ records_cases (number16 bs 6) (record_count bs) header_length (drop header_length bs))
 
   abbrev pub checked : List ℕ → Result (Unit {0}) FileFault
   checked bs = answer (first_fault (file_cases bs))
-
--- a header and whole records, not too many
-pub record Whole (bs : List ℕ) : Type 0 where
-  pub records : length bs ≡ header_length + record_length * record_count bs
-  pub few : length bs ≤ longest_file

@@ -2,6 +2,7 @@
 use Rattle.std.specs.Prelude.{ℕ, zero, suc, ◌+◌, ◌-◌, ◌*◌, ◌/◌, ◌%◌, List, [], ◌∷◌, ◌++◌, length, drop, slice_index}
 use Rattle.std.specs.Option.{unwrap_or}
 use Rattle.std.specs.List.{flat_map}
+use Rattle.std.specs.Simd.{first_chunks}
 use Rattle.price.specs.Forms.{Forms, bytes32}
 use Rattle.table.specs.Marks.{mark_number, mark_of}
 use Rattle.table.specs.Table.{Table}
@@ -28,6 +29,10 @@ four bs at = slice_index bs at ∷ slice_index bs (at + 1) ∷ slice_index bs (a
 -- how many whole records a file holds
 abbrev pub record_count : List ℕ → ℕ
 record_count bs = (length bs - header_length) / record_length
+
+-- the whole records of a file
+abbrev pub records_of : List ℕ → List (List ℕ)
+records_of bs = first_chunks record_length (record_count bs) (drop header_length bs)
 
 -- From a table and a budget to bytes.
 module _ {K : Type 0} (f : Forms K) where

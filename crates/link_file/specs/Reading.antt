@@ -1,9 +1,9 @@
 -- What a reader stands for, and what the check and the writer promise.
-use Rattle.std.specs.Prelude.{◌≡◌, ℕ, T, List, [], drop, Ok}
+use Rattle.std.specs.Prelude.{◌≡◌, ℕ, T, List, [], map, Ok}
 use Rattle.price.specs.Kind.{Operations}
 use Rattle.price.specs.Forms.{Forms}
 use Rattle.table.specs.Table.{Table, Lawful}
-use Rattle.link_file.specs.Format.{header_length, links_of, record_count, file_table, file_budget, file_bytes}
+use Rattle.link_file.specs.Format.{records_of, link_at, file_table, file_budget, file_bytes}
 use Rattle.link_file.specs.Check.{checked}
 use Rattle.link_file.specs.declared.input.Reader.{Reader}
 
@@ -12,20 +12,20 @@ module _ {K : Type 0} (o : Operations K) (f : Forms K) where
   abbrev pub reader_table : Reader K → Table K
   reader_table r = record {
     points = r.points;
-    links = links_of f o.zero (record_count r.bytes.now) (drop header_length r.bytes.now);
+    links = map (link_at f o.zero) r.records.now;
     carried = o.zero;
   }
 
-  -- no bytes: one point, no links, zero budget
+  -- no records: one point, no links, zero budget
   pub record Unfilled (r : Reader K) : Type 0 where
-    pub bytes : r.bytes.now ≡ []
+    pub records : r.records.now ≡ []
     pub table : reader_table r ≡ record { points = 1; links = []; carried = o.zero }
     pub budget : r.budget ≡ o.zero
     pub lawful : Lawful o (reader_table r)
 
-  -- The reader holds these bytes and stands for what the format says of them, which is lawful; written again it gives the same bytes.
+  -- The reader holds the records of these bytes and stands for what the format says of them, which is lawful; written again it gives the same bytes.
   pub record Filled (r : Reader K) (bs : List ℕ) : Type 0 where
-    pub bytes : r.bytes.now ≡ bs
+    pub records : r.records.now ≡ records_of bs
     pub table : reader_table r ≡ file_table f o.zero bs
     pub budget : r.budget ≡ file_budget f o.zero bs
     pub lawful : Lawful o (reader_table r)

@@ -2,10 +2,11 @@
 #![tactic(auto)]
 
 mod check;
+mod fields;
 mod input;
 mod reading;
 mod writing;
 
-pub use check::LONGEST;
+pub use check::{HEADER, LONGEST, RECORD};
 pub use input::Reader;
 pub use writing::write;

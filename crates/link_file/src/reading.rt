@@ -1,9 +1,10 @@
 //! The methods of the reader.
-ghost use Rattle.std.specs.Prelude.{◌≡◌, ◌≤◌, length};
-ghost use Rattle.link_file.specs.Format.{record_length, record_count, link_at};
+ghost use Rattle.std.specs.Prelude.{◌≡◌};
+ghost use Rattle.link_file.specs.Format.{link_at};
 ghost use Rattle.link_file.specs.Reading.{reader_table, Unfilled};
 
-use super::check::{HEADER, RECORD};
+use super::check::RECORD;
+use super::fields::Fields;
 use super::input::Reader;
 use price::StorableKind;
 use table::LinkTable;
@@ -16,7 +17,7 @@ impl<'a, K: StorableKind> Reader<'a, K> {
         ensures { Unfilled K.PriceKind.operations K.StorableKind.forms result }
     {
         Reader {
-            bytes: &[],
+            records: &[],
             points: 1,
             budget: K::zero(),
         }
@@ -30,24 +31,16 @@ impl<'a, K: StorableKind> Reader<'a, K> {
     }
 }
 
-// How many whole records stand after the header.
-fn count_records(bytes: &[u8]) -> usize
-    ensures { result ≡ record_count bytes.now }
-{
-    bytes.len().saturating_sub(HEADER) / RECORD
-}
-
-// The link of the record at the front.
-fn decode_record<K: StorableKind>(bytes: &[u8]) -> Link<K>
-    requires { record_length ≤ length bytes.now }
+// The link of a record. Bytes that stand for nothing, which no checked file has, read as a free mark and a zero price.
+fn decode_record<K: StorableKind>(bytes: &[u8; RECORD]) -> Link<K>
     ensures { result ≡ link_at K.StorableKind.forms K.PriceKind.operations.zero bytes.now }
 {
-    let price = K::price_of([bytes[6], bytes[7], bytes[8], bytes[9]]);
+    let fields = Fields::of(bytes);
     Link {
-        first: u16::from_be_bytes([bytes[1], bytes[2]]),
-        second: u16::from_be_bytes([bytes[3], bytes[4]]),
-        mark: Mark::from_number(bytes[5]).unwrap_or(Mark::Free),
-        price: price.unwrap_or(K::zero()),
+        first: fields.first,
+        second: fields.second,
+        mark: Mark::try_from(fields.mark).unwrap_or(Mark::Free),
+        price: K::price_of(fields.price).unwrap_or(K::zero()),
     }
 }
 
@@ -59,14 +52,11 @@ impl<'a, K: StorableKind> LinkTable<K> for Reader<'a, K> {
     }
 
     fn link_count(&self) -> usize {
-        count_records(self.bytes)
+        self.records.len()
     }
 
     fn link(&self, number: usize) -> Option<Link<K>> {
-        if number >= count_records(self.bytes) {
-            return None;
-        }
-        Some(decode_record::<K>(&self.bytes[HEADER + RECORD * number..]))
+        self.records.get(number).map(|bytes| decode_record(bytes))
     }
 
     fn carried(&self) -> K {

@@ -1,9 +1,9 @@
 //! The writer of link files.
-ghost use Rattle.std.specs.Prelude.{◌≡◌, ◌+◌, ◌*◌, ◌^◌, ◌<◌, ◌≤◌, T, ◌++◌, length, take, drop, IfOk, Some};
-ghost use Rattle.std.specs.List.{slice_get, flat_map};
+ghost use Rattle.std.specs.Prelude.{◌≡◌, ◌+◌, ◌*◌, ◌^◌, ◌<◌, ◌≤◌, T, ◌++◌, length, take, drop, IfOk};
+ghost use Rattle.std.specs.List.{flat_map};
 ghost use Rattle.table.specs.Buffers.{written_length, written_to};
 ghost use Rattle.table.specs.Table.{Lawful};
-ghost use Rattle.link_file.specs.Format.{header_length, record_length, record_bytes, header_bytes, file_bytes};
+ghost use Rattle.link_file.specs.Format.{record_length, record_bytes, header_bytes, file_bytes};
 ghost use Rattle.link_file.specs.Reading.{Stored};
 
 use super::check::{HEADER, RECORD};
@@ -13,84 +13,39 @@ use table::links::Link;
 use table::refusals::PlanFault;
 
 // The bytes before the first record.
-fn header_bytes<K: StorableKind>(links: usize, points: u16, budget: K) -> [u8; 12]
+fn header_bytes<K: StorableKind>(links: usize, points: u16, budget: K) -> [u8; HEADER]
     requires { 7 + record_length * links < 2 ^ 64 }
     ensures { result ≡ header_bytes K.StorableKind.forms links points budget }
 {
-    let size = (7 + RECORD * links).to_be_bytes();
-    let count = points.to_be_bytes();
-    let form = budget.budget_form();
-    [
-        1,
-        size[4],
-        size[5],
-        size[6],
-        size[7],
-        K::code(),
-        count[0],
-        count[1],
-        form[0],
-        form[1],
-        form[2],
-        form[3],
-    ]
+    // The low 32 bits of the length are written.
+    let [.., a, b, c, d] = (7 + RECORD * links).to_be_bytes();
+    let [e, f] = points.to_be_bytes();
+    let [g, h, i, j] = budget.budget_form();
+    [1, a, b, c, d, K::code(), e, f, g, h, i, j]
 }
 
 // The bytes of a link's record.
-fn record_bytes<K: StorableKind>(link: Link<K>) -> [u8; 10]
+fn record_bytes<K: StorableKind>(link: Link<K>) -> [u8; RECORD]
     ensures { result ≡ record_bytes K.StorableKind.forms link }
 {
-    let first = link.first.to_be_bytes();
-    let second = link.second.to_be_bytes();
-    let form = link.price.price_form();
-    [
-        9,
-        first[0],
-        first[1],
-        second[0],
-        second[1],
-        link.mark.number(),
-        form[0],
-        form[1],
-        form[2],
-        form[3],
-    ]
+    let [a, b] = link.first.to_be_bytes();
+    let [c, d] = link.second.to_be_bytes();
+    let [e, f, g, h] = link.price.price_form();
+    [9, a, b, c, d, u8::from(link.mark), e, f, g, h]
 }
 
-// Writes the header to the front.
-fn put_header<K: StorableKind>(out: &mut [u8], links: usize, points: u16, budget: K)
-    requires { (header_length ≤ length out.old) × (7 + record_length * links < 2 ^ 64) }
-    ensures { out.new ≡ header_bytes K.StorableKind.forms links points budget ++ drop header_length out.old }
+// Writes the records to the front.
+// By number, since the chunks that `as_chunks_mut` lends do not say what the buffer holds at the end.
+fn put_records<K: StorableKind, L: LinkTable<K>>(table: &L, out: &mut [u8])
+    requires { record_length * length (L.LinkTable.meaning table.now).links ≤ length out.old }
+    ensures { out.new ≡ flat_map (record_bytes K.StorableKind.forms) (L.LinkTable.meaning table.now).links ++ drop (record_length * length (L.LinkTable.meaning table.now).links) out.old }
 {
-    out[0..HEADER].copy_from_slice(&header_bytes(links, points, budget));
-}
-
-// A link that the table has.
-fn link_at<K: StorableKind, L: LinkTable<K>>(table: &L, number: usize) -> Link<K>
-    requires { number < length (L.LinkTable.meaning table.now).links }
-    ensures { slice_get (L.LinkTable.meaning table.now).links number ≡ Some result }
-{
-    match table.link(number) {
-        Some(link) => link,
-        None => unreachable(),
-    }
-}
-
-// Writes a record at its place.
-fn put_record<K: StorableKind>(out: &mut [u8], at: usize, link: Link<K>)
-    requires { at + record_length ≤ length out.old }
-    ensures { out.new ≡ take at out.old ++ (record_bytes K.StorableKind.forms link ++ drop (at + record_length) out.old) }
-{
-    out[at..at + RECORD].copy_from_slice(&record_bytes(link));
-}
-
-// Writes all records after the header.
-fn put_records<K: StorableKind, L: LinkTable<K>>(table: &L, count: usize, out: &mut [u8])
-    requires { (count ≡ length (L.LinkTable.meaning table.now).links) × (header_length + record_length * count ≤ length out.old) }
-    ensures { out.new ≡ take header_length out.old ++ (flat_map (record_bytes K.StorableKind.forms) (L.LinkTable.meaning table.now).links ++ drop (header_length + record_length * count) out.old) }
-{
-    for number in 0..count {
-        put_record(out, HEADER + RECORD * number, link_at(table, number));
+    // A table is asked by number: it lends no list to walk.
+    for number in 0..table.link_count() {
+        if let Some(link) = table.link(number) {
+            let at = RECORD * number;
+            out[at..at + RECORD].copy_from_slice(&record_bytes(link));
+        }
     }
 }
 
@@ -105,10 +60,13 @@ pub fn write<K: StorableKind, L: LinkTable<K>>(
     ensures stored { IfOk result (λ n. Lawful K.PriceKind.operations (L.LinkTable.meaning table.now) → T (K.PriceKind.operations.budget budget) → Stored K.PriceKind.operations K.StorableKind.forms (L.LinkTable.meaning table.now) budget (take n out.new)) }
 {
     let count = table.link_count();
-    if out.len() < HEADER || count > (out.len() - HEADER) / RECORD {
+    let Some((header, records)) = out.split_first_chunk_mut::<HEADER>() else {
+        return Err(PlanFault::ShortBuffer);
+    };
+    if count > records.len() / RECORD {
         return Err(PlanFault::ShortBuffer);
     }
-    put_header(out, count, table.points(), budget);
-    put_records(table, count, out);
+    *header = header_bytes(count, table.points(), budget);
+    put_records(table, records);
     Ok(HEADER + RECORD * count)
 }

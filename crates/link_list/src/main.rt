@@ -7,17 +7,17 @@ use link_file::LONGEST;
 use listing::list_file;
 use price::additive::Bytes;
 use std::io;
-use std::io::{Read, Write};
+use std::io::Read;
 use std::process::ExitCode;
 
 fn main(rt: HostRuntime) -> io::Result<ExitCode> {
-    // one byte more than the longest file, so that a longer input is seen to be one
+    // One byte more than the longest file, so that a longer input is seen to be one.
     let mut bytes = Vec::new(rt.alloc());
     rt.stdin().take(LONGEST as u64 + 1).read_to_end(&mut bytes)?;
-    let report = list_file::<Bytes>(rt.alloc(), bytes.as_slice())?;
-    rt.stdout().write_all(report.text.as_slice())?;
-    if report.refused {
-        return Ok(ExitCode::FAILURE);
+    let report = list_file::<Bytes>(rt.alloc(), &bytes)?;
+    rt.print(report.text)?;
+    match report.answer {
+        Ok(()) => Ok(ExitCode::SUCCESS),
+        Err(_) => Ok(ExitCode::FAILURE),
     }
-    Ok(ExitCode::SUCCESS)
 }

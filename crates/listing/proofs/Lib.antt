@@ -1,4 +1,1 @@
-pub mod Texts
-pub mod Appended
-pub mod Lengths
-pub mod Listed
+mod Listed

@@ -1,12 +1,14 @@
 -- The lines of the printed list, and the line of a refused file. Numbers are decimal, and each line ends in byte 10.
 use Rattle.std.specs.Prelude.{ℕ, suc, List, [], ◌∷◌, ◌++◌, length, ℤ, codes, decimal, slice_index_or}
 use Rattle.std.specs.Fmt.{signed_decimal}
-use Rattle.table.specs.Refusals.{file_refusal}
+use Rattle.table.specs.Printed.{mark_word, file_fault_text}
 use Rattle.table.specs.Table.{Table}
 use Rattle.table.specs.declared.links.Link.{Link}
-use Rattle.table.specs.declared.marks.Mark.{Mark}
-use Rattle.table.specs.declared.marks.Mark.TheVariants.{Free, Kept, Barred}
 use Rattle.table.specs.declared.refusals.FileFault.{FileFault}
+
+-- how many bytes a line has room for; no line of the list is longer
+abbrev pub room : ℕ
+room = 128
 
 -- between two fields
 abbrev pub space : List ℕ
@@ -16,11 +18,6 @@ space = codes " "
 abbrev pub ending : List ℕ
 ending = 10 ∷ []
 
-abbrev pub mark_word : Mark → List ℕ
-mark_word Free = codes "free"
-mark_word Kept = codes "kept"
-mark_word Barred = codes "barred"
-
 -- line 0: the point count, the link count, the kind's code and the budget
 abbrev pub head_line : ℕ → ℕ → ℕ → ℤ → List ℕ
 head_line points links code budget =
@@ -28,7 +25,7 @@ head_line points links code budget =
 
 -- a refused file: the refusal's number, and the place of the byte
 abbrev pub refusal_line : FileFault → List ℕ
-refusal_line fault = codes "refused " ++ decimal (file_refusal fault).0 ++ codes " at " ++ decimal (file_refusal fault).1 ++ ending
+refusal_line fault = file_fault_text fault ++ ending
 
 -- a kind, by the number that is printed for each amount
 module _ {K : Type 0} (amount : K → ℤ) where

@@ -14,15 +14,13 @@
 
 ghost use Rattle.std.specs.Prelude.{◌≡◌, ◌≤◌, length};
 ghost use Rattle.table.specs.Buffers.{written_length, written_to};
-ghost use Rattle.listing.specs.Lines.{head_line, link_line, line_of, refusal_line, mark_word};
-ghost use Rattle.listing.specs.Text.{text_of, room};
+ghost use Rattle.listing.specs.Lines.{room, head_line, link_line, line_of, refusal_line};
 
 use amounts::ListedKind;
 use table::LinkTable;
 use table::links::Link;
-use table::marks::Mark;
 use table::refusals::{FileFault, PlanFault};
-use text::Line;
+use text::{Line, copy_text, push_number};
 
 pub mod amounts;
 mod report;
@@ -44,7 +42,7 @@ pub fn compose_line<K: ListedKind, L: LinkTable<K>>(
     ensures after { out.new ≡ written_to (line_of K.ListedKind.printed K.StorableKind.forms.code (L.LinkTable.meaning table.now) budget number) out.old }
     ensures enough { length (line_of K.ListedKind.printed K.StorableKind.forms.code (L.LinkTable.meaning table.now) budget number) ≤ room }
 {
-    line_of(table, budget, number).copy_to(out)
+    copy_text(&line_of(table, budget, number), out)
 }
 
 /// Composes the line of a refused file into a buffer, `refused 17 at 22`, and answers its length.
@@ -54,82 +52,72 @@ pub fn compose_refusal(fault: FileFault, out: &mut [u8]) -> Result<usize, PlanFa
     ensures after { out.new ≡ written_to (refusal_line fault) out.old }
     ensures enough { length (refusal_line fault) ≤ room }
 {
-    refusal_line(fault).copy_to(out)
+    copy_text(&refusal_line(fault), out)
 }
 
-/// The line of this number, which is empty past the last line.
+// The line of this number, which is empty past the last line.
+#[tactic(auto, using(crate::proofs::Listed::line_of_link, crate::proofs::Listed::line_of_none))]
 fn line_of<K: ListedKind, L: LinkTable<K>>(table: &L, budget: K, number: usize) -> Line
-    ensures { text_of result ≡ line_of K.ListedKind.printed K.StorableKind.forms.code (L.LinkTable.meaning table.now) budget number }
+    ensures { result.bytes ≡ line_of K.ListedKind.printed K.StorableKind.forms.code (L.LinkTable.meaning table.now) budget number }
 {
-    if number == 0 {
+    let Some(link_number) = number.checked_sub(1) else {
         return head_line(
             table.points(),
             table.link_count(),
             K::code(),
             budget.amount(),
         );
-    }
-    match table.link(number - 1) {
-        Some(link) => link_line(number - 1, link),
+    };
+    match table.link(link_number) {
+        Some(link) => link_line(link_number, link),
         None => Line::new(),
     }
 }
 
-/// Line 0.
+// Line 0.
 fn head_line(points: u16, links: usize, code: u8, budget: i64) -> Line
-    ensures { text_of result ≡ head_line points links code budget }
+    ensures { result.bytes ≡ head_line points links code budget }
 {
     let mut line = Line::new();
-    line.push_word(b"points ");
-    line.push_number(points as u64);
-    line.push_word(b" links ");
-    line.push_number(links as u64);
-    line.push_word(b" kind ");
-    line.push_number(code as u64);
-    line.push_word(b" budget ");
-    line.push_signed(budget);
-    line.push_byte(b'\n');
+    line.push_str("points ");
+    push_number(&mut line, points);
+    line.push_str(" links ");
+    push_number(&mut line, links);
+    line.push_str(" kind ");
+    push_number(&mut line, code);
+    line.push_str(" budget ");
+    push_number(&mut line, budget);
+    line.push_str("\n");
     line
 }
 
-/// The line of a link.
+// The line of a link.
 fn link_line<K: ListedKind>(number: usize, link: Link<K>) -> Line
-    ensures { text_of result ≡ link_line K.ListedKind.printed number link }
+    ensures { result.bytes ≡ link_line K.ListedKind.printed number link }
 {
     let mut line = Line::new();
-    line.push_number(number as u64);
-    line.push_byte(b' ');
-    line.push_number(link.first as u64);
-    line.push_byte(b' ');
-    line.push_number(link.second as u64);
-    line.push_byte(b' ');
-    line.push_word(mark_word(link.mark));
-    line.push_byte(b' ');
-    line.push_signed(link.price.amount());
-    line.push_byte(b'\n');
+    push_number(&mut line, number);
+    line.push_str(" ");
+    push_number(&mut line, link.first);
+    line.push_str(" ");
+    push_number(&mut line, link.second);
+    line.push_str(" ");
+    line.push_str(link.mark.word());
+    line.push_str(" ");
+    push_number(&mut line, link.price.amount());
+    line.push_str("\n");
     line
 }
 
-/// The word for a mark.
-fn mark_word(mark: Mark) -> &'static [u8]
-    ensures { result.now ≡ mark_word mark }
-{
-    match mark {
-        Mark::Free => b"free",
-        Mark::Kept => b"kept",
-        Mark::Barred => b"barred",
-    }
-}
-
-/// The line of a refused file.
+// The line of a refused file.
 fn refusal_line(fault: FileFault) -> Line
-    ensures { text_of result ≡ refusal_line fault }
+    ensures { result.bytes ≡ refusal_line fault }
 {
     let mut line = Line::new();
-    line.push_word(b"refused ");
-    line.push_number(fault.number() as u64);
-    line.push_word(b" at ");
-    line.push_number(fault.place() as u64);
-    line.push_byte(b'\n');
+    line.push_str("refused ");
+    push_number(&mut line, fault.number());
+    line.push_str(" at ");
+    push_number(&mut line, fault.place());
+    line.push_str("\n");
     line
 }
