@@ -1,10 +1,10 @@
 //! How often each number is answered, and a checksum over all that is printed.
 use super::digest::{START, fold};
-use link_file::Reader;
 use listing::amounts::ListedKind;
 use listing::list_file;
 use std::alloc::{AllocError, Global};
 use std::io;
+use table::refusals::FileFault;
 
 /// The number of the first refusal.
 const FIRST: usize = 11;
@@ -33,15 +33,14 @@ impl Tally {
     /// Checks and lists one more file.
     pub fn add<K: ListedKind>(&mut self, heap: Global, file: &[u8]) -> Result<(), AllocError> {
         let report = list_file::<K>(heap, file)?;
-        self.digest = fold(self.digest, &report.text, report.text.len());
-        self.count::<K>(file);
+        self.digest = fold(self.digest, report.text.as_bytes());
+        self.count(report.answer);
         Ok(())
     }
 
-    // Counts what the check answers.
-    fn count<K: ListedKind>(&mut self, file: &[u8]) {
-        let mut reader = Reader::<K>::new();
-        match reader.check(file) {
+    // Counts what the check answered.
+    fn count(&mut self, answer: Result<(), FileFault>) {
+        match answer {
             Ok(()) => self.passed = self.passed.saturating_add(1),
             Err(fault) => {
                 let place = usize::from(fault.number()).wrapping_sub(FIRST);
@@ -57,8 +56,7 @@ impl Tally {
         let passed = self.passed;
         let digest = self.digest;
         println!(rt; "pass: {passed}")?;
-        for (i, count) in self.refused.iter().enumerate() {
-            let number = i.saturating_add(FIRST);
+        for (number, count) in (FIRST..).zip(self.refused.iter()) {
             println!(rt; "{number}: {count}")?;
         }
         println!(rt; "all: {digest:08x}")

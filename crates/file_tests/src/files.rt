@@ -12,6 +12,17 @@ pub type Change = (usize, u8);
 /// Turns sheet A into a file of the kind drift.
 pub const AS_DRIFT: Change = (5, 2);
 
+/// Sheet A with the least amounts of the kind bytes: the budget, and the price of link 0, which is barred.
+pub const LEAST: [Change; 7] = [
+    (8, 128),
+    (11, 0),
+    (17, 2),
+    (18, 0xff),
+    (19, 0xf0),
+    (20, 0xbd),
+    (21, 0xc0),
+];
+
 /// Puts bytes at their places.
 pub fn put(file: &mut Vec<u8>, changes: &[Change]) {
     for (place, value) in changes {
@@ -51,10 +62,9 @@ pub fn repeated(heap: Global, links: u16) -> Result<Vec<u8>, AllocError> {
 /// What the check answers for a file of a kind: number and place of the refusal.
 pub fn answer<K: StorableKind>(file: &[u8]) -> Result<(), (u8, usize)> {
     let mut reader = Reader::<K>::new();
-    match reader.check(file) {
-        Ok(()) => Ok(()),
-        Err(fault) => Err((fault.number(), fault.place())),
-    }
+    reader
+        .check(file)
+        .map_err(|fault| (fault.number(), fault.place()))
 }
 
 /// Sheet A with these changes passes.

@@ -1,4 +1,5 @@
-//! Tests of the link file and of the printed list. The crate exists for its tests only.
+//! Tests of the link file and of the printed list. The crate exists for its tests only. Each test is one case
+//! under a name of its own, with the nearest granted value beside it, so that a failure says which.
 #![tactic(auto)]
 
 pub mod single;

@@ -1,6 +1,6 @@
 //! Lines of the printed list, and lines of refused files.
 use super::SHEET_A;
-use super::files::{AS_DRIFT, repeated, sheet};
+use super::files::{AS_DRIFT, LEAST, repeated, sheet};
 use super::single::Single;
 use link_file::Reader;
 use listing::amounts::ListedKind;
@@ -10,7 +10,7 @@ use price::bottleneck::Drift;
 use std::process::Abort;
 use std::test::Fail;
 use table::links::Link;
-use table::marks::Mark;
+use table::marks::{Mark, UnknownMark};
 use table::refusals::{FileFault, PlanFault, RecordFault};
 
 // The line of this number is this text, and the bytes past it stay.
@@ -60,16 +60,7 @@ fn unfilled_reader(rt: HostRuntime) -> Result<(), Fail> {
 
 #[test]
 fn negative_amounts(rt: HostRuntime) -> Result<(), Fail> {
-    let least = [
-        (8, 128),
-        (11, 0),
-        (17, 2),
-        (18, 0xff),
-        (19, 0xf0),
-        (20, 0xbd),
-        (21, 0xc0),
-    ];
-    let file = sheet(rt.alloc(), &least)?;
+    let file = sheet(rt.alloc(), &LEAST)?;
     let mut reader = Reader::<Bytes>::new();
     reader.check(&file)?;
     lists(
@@ -199,10 +190,10 @@ fn short_refusal(rt: HostRuntime) {
 #[test]
 fn whole_list(rt: HostRuntime) -> Result<(), Fail> {
     let report = list_file::<Bytes>(rt.alloc(), SHEET_A)?;
-    assert!(rt; !report.refused);
+    assert!(rt; report.answer.is_ok());
     let lines =
-        b"points 4 links 5 kind 1 budget 10\n0 0 1 free 4\n1 1 2 free 3\n2 0 2 free 5\n3 2 3 kept 2\n4 1 3 free 6\n";
-    assert_eq!(rt; report.text.as_slice(), lines.as_slice());
+        "points 4 links 5 kind 1 budget 10\n0 0 1 free 4\n1 1 2 free 3\n2 0 2 free 5\n3 2 3 kept 2\n4 1 3 free 6\n";
+    assert_eq!(rt; report.text.as_str(), lines);
     Ok(())
 }
 
@@ -211,7 +202,33 @@ fn refused_list(rt: HostRuntime) -> Result<(), Fail> {
     let heap = rt.alloc();
     let file = sheet(heap, &[(36, 0)])?;
     let report = list_file::<Bytes>(heap, &file)?;
-    assert!(rt; report.refused);
-    assert_eq!(rt; report.text.as_slice(), b"refused 18 at 33\n".as_slice());
+    assert!(rt; report.answer.is_err());
+    assert_eq!(rt; report.text.as_str(), "refused 18 at 33\n");
+    Ok(())
+}
+
+#[test]
+fn printed_words(rt: HostRuntime) -> Result<(), Fail> {
+    let heap = rt.alloc();
+    assert_eq!(rt;
+        format!(in heap; "{} {} {}", Mark::Free, Mark::Kept, Mark::Barred)?.as_str(),
+        "free kept barred"
+    );
+    assert_eq!(rt;
+        UnknownMark(3).to_string(heap)?.as_str(),
+        "no mark has the number 3"
+    );
+    let record = RecordFault::Length(22);
+    assert_eq!(rt; record.to_string(heap)?.as_str(), "refused 17 at 22");
+    assert_eq!(rt;
+        FileFault::Kind.to_string(heap)?.as_str(),
+        "refused 14 at 5"
+    );
+    let plan = PlanFault::from(FileFault::from(record));
+    assert_eq!(rt; plan.to_string(heap)?.as_str(), "refused 17 at 22");
+    assert_eq!(rt;
+        PlanFault::ShortBuffer.to_string(heap)?.as_str(),
+        "refused 33"
+    );
     Ok(())
 }

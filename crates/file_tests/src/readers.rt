@@ -1,6 +1,6 @@
 //! What a reader holds before, after and despite a check.
 use super::SHEET_A;
-use super::files::{AS_DRIFT, repeated, sheet};
+use super::files::{AS_DRIFT, LEAST, repeated, sheet};
 use link_file::Reader;
 use price::additive::Bytes;
 use price::bottleneck::Drift;
@@ -8,13 +8,16 @@ use std::process::Abort;
 use std::test::Fail;
 use table::LinkTable;
 use table::links::Link;
+use table::marks::Mark;
 use table::refusals::FileFault;
 
-/// Ends, mark's number and price of a link.
-pub fn parts(link: Option<Link<Bytes>>) -> Option<(u16, u16, u8, i32)> {
-    match link {
-        Some(link) => Some((link.first, link.second, link.mark.number(), link.price.0)),
-        None => None,
+/// A link of the kind bytes.
+pub fn link(first: u16, second: u16, mark: Mark, price: i32) -> Link<Bytes> {
+    Link {
+        first,
+        second,
+        mark,
+        price: Bytes(price),
     }
 }
 
@@ -24,12 +27,12 @@ pub fn holds_sheet_a(rt: &impl Abort, reader: &Reader<Bytes>) {
     assert_eq!(rt; reader.budget().0, 10);
     assert_eq!(rt; reader.link_count(), 5);
     assert_eq!(rt; reader.carried().0, 0);
-    assert_eq!(rt; parts(reader.link(0)), Some((0, 1, 0, 4)));
-    assert_eq!(rt; parts(reader.link(1)), Some((1, 2, 0, 3)));
-    assert_eq!(rt; parts(reader.link(2)), Some((0, 2, 0, 5)));
-    assert_eq!(rt; parts(reader.link(3)), Some((2, 3, 1, 2)));
-    assert_eq!(rt; parts(reader.link(4)), Some((1, 3, 0, 6)));
-    assert_eq!(rt; parts(reader.link(5)), None);
+    assert_eq!(rt; reader.link(0), Some(link(0, 1, Mark::Free, 4)));
+    assert_eq!(rt; reader.link(1), Some(link(1, 2, Mark::Free, 3)));
+    assert_eq!(rt; reader.link(2), Some(link(0, 2, Mark::Free, 5)));
+    assert_eq!(rt; reader.link(3), Some(link(2, 3, Mark::Kept, 2)));
+    assert_eq!(rt; reader.link(4), Some(link(1, 3, Mark::Free, 6)));
+    assert_eq!(rt; reader.link(5), None);
 }
 
 #[test]
@@ -39,8 +42,8 @@ fn unfilled(rt: HostRuntime) {
     assert_eq!(rt; reader.link_count(), 0);
     assert_eq!(rt; reader.budget().0, 0);
     assert_eq!(rt; reader.carried().0, 0);
-    assert_eq!(rt; parts(reader.link(0)), None);
-    assert_eq!(rt; parts(reader.link(usize::MAX)), None);
+    assert_eq!(rt; reader.link(0), None);
+    assert_eq!(rt; reader.link(usize::MAX), None);
 }
 
 #[test]
@@ -57,8 +60,8 @@ fn filled(rt: HostRuntime) {
     let mut reader = Reader::<Bytes>::new();
     assert_eq!(rt; reader.check(SHEET_A), Ok(()));
     holds_sheet_a(&rt, &reader);
-    assert_eq!(rt; parts(reader.link(2_047)), None);
-    assert_eq!(rt; parts(reader.link(usize::MAX)), None);
+    assert_eq!(rt; reader.link(2_047), None);
+    assert_eq!(rt; reader.link(usize::MAX), None);
 }
 
 #[test]
@@ -93,8 +96,8 @@ fn filled_again(rt: HostRuntime) -> Result<(), Fail> {
     assert_eq!(rt; reader.check(&file), Ok(()));
     assert_eq!(rt; reader.points(), 2);
     assert_eq!(rt; reader.link_count(), 2_048);
-    assert_eq!(rt; parts(reader.link(2_047)), Some((0, 1, 0, 5)));
-    assert_eq!(rt; parts(reader.link(2_048)), None);
+    assert_eq!(rt; reader.link(2_047), Some(link(0, 1, Mark::Free, 5)));
+    assert_eq!(rt; reader.link(2_048), None);
     assert_eq!(rt; reader.check(SHEET_A), Ok(()));
     holds_sheet_a(&rt, &reader);
     Ok(())
@@ -102,23 +105,11 @@ fn filled_again(rt: HostRuntime) -> Result<(), Fail> {
 
 #[test]
 fn signed_amounts(rt: HostRuntime) -> Result<(), Fail> {
-    let heap = rt.alloc();
-    let least = sheet(
-        heap,
-        &[
-            (8, 128),
-            (11, 0),
-            (17, 2),
-            (18, 0xff),
-            (19, 0xf0),
-            (20, 0xbd),
-            (21, 0xc0),
-        ],
-    )?;
+    let least = sheet(rt.alloc(), &LEAST)?;
     let mut reader = Reader::<Bytes>::new();
     assert_eq!(rt; reader.check(&least), Ok(()));
     assert_eq!(rt; reader.budget().0, -2_147_483_648);
-    assert_eq!(rt; parts(reader.link(0)), Some((0, 1, 2, -1_000_000)));
+    assert_eq!(rt; reader.link(0), Some(link(0, 1, Mark::Barred, -1_000_000)));
     Ok(())
 }
 

@@ -24,7 +24,7 @@ impl<K: Copy> LinkTable<K> for Single<K> {
     }
 
     fn link(&self, number: usize) -> Option<Link<K>> {
-        if number == 0 { Some(self.link) } else { None }
+        (number == 0).then_some(self.link)
     }
 
     fn carried(&self) -> K {

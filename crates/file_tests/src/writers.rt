@@ -1,7 +1,7 @@
 //! Files that are written.
 use super::SHEET_A;
 use super::files::{AS_DRIFT, answer, repeated, sheet};
-use super::readers::{holds_sheet_a, parts};
+use super::readers::{holds_sheet_a, link};
 use super::single::Single;
 use link_file::{Reader, write};
 use price::additive::Bytes;
@@ -13,16 +13,6 @@ use table::links::Link;
 use table::marks::Mark;
 use table::refusals::PlanFault;
 
-// A link of the kind bytes.
-fn link(first: u16, second: u16, mark: Mark, price: i32) -> Link<Bytes> {
-    Link {
-        first,
-        second,
-        mark,
-        price: Bytes(price),
-    }
-}
-
 // The file passes, and holds sheet A.
 fn reads_as_sheet_a(rt: &impl Abort, file: &[u8]) -> Result<(), Fail> {
     let mut reader = Reader::<Bytes>::new();
@@ -32,11 +22,11 @@ fn reads_as_sheet_a(rt: &impl Abort, file: &[u8]) -> Result<(), Fail> {
 }
 
 // The file passes, and holds this one link and a zero total.
-fn reads_as(rt: &impl Abort, file: &[u8], link: (u16, u16, u8, i32)) -> Result<(), Fail> {
+fn reads_as(rt: &impl Abort, file: &[u8], link: Link<Bytes>) -> Result<(), Fail> {
     let mut reader = Reader::<Bytes>::new();
     reader.check(file)?;
     assert_eq!(rt; reader.link_count(), 1);
-    assert_eq!(rt; parts(reader.link(0)), Some(link));
+    assert_eq!(rt; reader.link(0), Some(link));
     assert_eq!(rt; reader.carried().0, 0);
     Ok(())
 }
@@ -158,7 +148,7 @@ fn other_table(rt: HostRuntime) -> Result<(), Fail> {
     let file = b"\x01\0\0\0\x11\x01\x04\0\xff\xff\xff\xff\x09\x03\xff\x01\x02\x02\xff\xf0\xbd\xc0";
     assert_eq!(rt; &out[0..22], file.as_slice());
     assert_eq!(rt; out[22], 7);
-    reads_as(&rt, &out[0..22], (1_023, 258, 2, -1_000_000))
+    reads_as(&rt, &out[0..22], link(1_023, 258, Mark::Barred, -1_000_000))
 }
 
 // What is not lawful is written, and its file is refused.

@@ -3,22 +3,20 @@
 #![tactic(auto)]
 
 use forest::growing::{Growth, grow};
-use forest::networks::{LINKS, Network};
-use link_file::Reader;
+use forest::networks::Network;
+use link_file::{HEADER, RECORD, Reader};
 use price::additive::Bytes;
 use ranking::ordering::Order;
 use spanning::components::Components;
-use std::io;
 use std::io::Read;
 use std::time::{Duration, Instant};
+use std::{fmt, io};
 
 // How many rounds are run.
 const ROUNDS: u32 = 200;
 
-// The place of the first price, and how far each is from the next.
-const FIRST_PRICE: usize = 18;
-
-const RECORD: usize = 10;
+// The place of the price in a record.
+const PRICE: usize = 6;
 
 // The next of a run of scattered numbers.
 fn scatter(seed: u32) -> u32 {
@@ -27,40 +25,26 @@ fn scatter(seed: u32) -> u32 {
     second ^ (second << 5)
 }
 
-// Writes a number at a place, if the file is that long.
-fn put(file: &mut [u8], place: usize, number: u32) {
-    let form = number.to_be_bytes();
-    for (i, byte) in form.iter().enumerate() {
-        if let Some(at) = file.get_mut(place.saturating_add(i)) {
-            *at = *byte;
-        }
-    }
-}
-
 // Gives each link another price, from 0 to 999,999.
 fn reprice(file: &mut [u8], seed: u32) -> u32 {
     let mut seed = seed;
-    for link in 0..LINKS {
-        let place = FIRST_PRICE + RECORD * link;
+    let Some(records) = file.get_mut(HEADER..) else {
+        return seed;
+    };
+    for record in records.chunks_exact_mut(RECORD) {
         seed = scatter(seed);
-        put(file, place, (seed & 0xff_ffff) % 1_000_000);
+        record[PRICE..].copy_from_slice(&((seed & 0xff_ffff) % 1_000_000).to_be_bytes());
     }
     seed
 }
 
 // How many links a tree has.
-fn size(growth: &Growth) -> u32 {
-    let mut count: u32 = 0;
-    for held in &growth.tree {
-        if *held {
-            count = count.wrapping_add(1);
-        }
-    }
-    count
+fn size(growth: &Growth) -> usize {
+    growth.tree.iter().filter(|held| **held).count()
 }
 
 // The times of one round, added to those so far.
-#[derive(Clone, Copy)]
+#[derive(Clone, Copy, Default)]
 struct Times {
     order: Duration,
     tree: Duration,
@@ -75,7 +59,7 @@ impl Times {
 }
 
 // One round: the order, then the network and its tree.
-fn round(rt: &HostRuntime, file: &[u8], times: &mut Times) -> io::Result<u32> {
+fn round(rt: &HostRuntime, file: &[u8], times: &mut Times) -> io::Result<usize> {
     let mut reader = Reader::<Bytes>::new();
     if reader.check(file).is_err() {
         return Ok(0);
@@ -93,24 +77,44 @@ fn round(rt: &HostRuntime, file: &[u8], times: &mut Times) -> io::Result<u32> {
 // How many joins are timed at once.
 const JOINS: u32 = 4_096;
 
-// Joins points below a number: scattered ones, or each to the next lower one, from the highest down and over again.
-fn join_many(points: u32, scattered: bool, seed: u32) -> u32 {
+// Which points are joined: scattered ones, or each to the next lower one, from the highest down and over again.
+#[derive(Clone, Copy)]
+enum Pattern {
+    Scattered,
+    InARow,
+}
+
+impl Pattern {
+    // The two points below a number that a step joins. Of no points there are none below, and they are counted as one.
+    fn ends(self, points: u32, seed: u32, step: u32) -> (u32, u32) {
+        let points = points.max(1);
+        match self {
+            Pattern::Scattered => (seed % points, (seed >> 16) % points),
+            Pattern::InARow => {
+                let place = step % points;
+                (points - place, points - place - 1)
+            }
+        }
+    }
+}
+
+impl fmt::Display for Pattern {
+    fn fmt<W: fmt::Write>(&self, f: &mut fmt::Formatter<W>) -> fmt::Result {
+        f.write_str(match self {
+            Pattern::Scattered => "scattered",
+            Pattern::InARow => "in a row",
+        })
+    }
+}
+
+// Joins points below a number, and counts the joins of two parts.
+fn join_many(points: u32, pattern: Pattern, seed: u32) -> u32 {
     let mut parts = Components::new();
     let mut seed = seed;
     let mut fresh: u32 = 0;
-    for i in 0..JOINS {
+    for step in 0..JOINS {
         seed = scatter(seed);
-        let step = i % points.max(1);
-        let first = if scattered {
-            seed % points.max(1)
-        } else {
-            points.saturating_sub(step)
-        };
-        let second = if scattered {
-            (seed >> 16) % points.max(1)
-        } else {
-            points.saturating_sub(step.saturating_add(1))
-        };
+        let (first, second) = pattern.ends(points, seed, step);
         if parts.join((first & 0x3ff) as u16, (second & 0x3ff) as u16) {
             fresh = fresh.wrapping_add(1);
         }
@@ -119,15 +123,14 @@ fn join_many(points: u32, scattered: bool, seed: u32) -> u32 {
 }
 
 // Prints how long a join takes among so many points.
-fn time_joins(rt: &HostRuntime, points: u32, scattered: bool) -> io::Result<u32> {
+fn time_joins(rt: &HostRuntime, points: u32, pattern: Pattern) -> io::Result<u32> {
     let mut fresh: u32 = 0;
     let start = Instant::now(rt)?;
     for round in 0..ROUNDS {
-        fresh = fresh.wrapping_add(join_many(points, scattered, 2_463_534_242 ^ round));
+        fresh = fresh.wrapping_add(join_many(points, pattern, 2_463_534_242 ^ round));
     }
     let each = start.elapsed(rt)?.as_nanos() / u128::from(ROUNDS) * 1_000 / u128::from(JOINS);
-    let order = if scattered { "scattered" } else { "in a row" };
-    eprintln!(rt; "a join among {points} points, {order}: {each} ps")?;
+    eprintln!(rt; "a join among {points} points, {pattern}: {each} ps")?;
     Ok(fresh)
 }
 
@@ -135,8 +138,9 @@ fn time_joins(rt: &HostRuntime, points: u32, scattered: bool) -> io::Result<u32>
 fn joins(rt: &HostRuntime) -> io::Result<u32> {
     let mut fresh: u32 = 0;
     for points in [64, 256, 1_023] {
-        fresh = fresh.wrapping_add(time_joins(rt, points, true)?);
-        fresh = fresh.wrapping_add(time_joins(rt, points, false)?);
+        for pattern in [Pattern::Scattered, Pattern::InARow] {
+            fresh = fresh.wrapping_add(time_joins(rt, points, pattern)?);
+        }
     }
     Ok(fresh)
 }
@@ -144,12 +148,9 @@ fn joins(rt: &HostRuntime) -> io::Result<u32> {
 fn main(rt: HostRuntime) -> io::Result<()> {
     let mut file = Vec::new(rt.alloc());
     rt.stdin().read_to_end(&mut file)?;
-    let mut times = Times {
-        order: Duration::ZERO,
-        tree: Duration::ZERO,
-    };
+    let mut times = Times::default();
     let mut seed: u32 = 2_463_534_242;
-    let mut links: u32 = 0;
+    let mut links: usize = 0;
     for _ in 0..ROUNDS {
         seed = reprice(file.as_mut_slice(), seed);
         links = links.wrapping_add(round(&rt, &file, &mut times)?);

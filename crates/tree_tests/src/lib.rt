@@ -1,16 +1,7 @@
 //! Tests of the order of links and of the trees on it. The crate exists for its tests only.
 #![tactic(auto)]
 
-/// Sheet A: 4 points, the kind bytes, budget 10, and the links 0 1 free 4, 1 2 free 3, 0 2 free 5, 2 3 kept 2 and 1 3 free 6.
-pub const SHEET_A: &[u8; 62] = b"\
-    \x01\x00\x00\x00\x39\x01\x00\x04\x00\x00\x00\x0a\
-    \x09\x00\x00\x00\x01\x00\x00\x00\x00\x04\
-    \x09\x00\x01\x00\x02\x00\x00\x00\x00\x03\
-    \x09\x00\x00\x00\x02\x00\x00\x00\x00\x05\
-    \x09\x00\x02\x00\x03\x01\x00\x00\x00\x02\
-    \x09\x00\x01\x00\x03\x00\x00\x00\x00\x06";
-
-/// The same with links 0, 1 and 2 kept, and with links 3 and 4 barred: they close a ring, and point 3 is cut off.
+/// Sheet A with links 0, 1 and 2 kept, and with links 3 and 4 barred: they close a ring, and point 3 is cut off.
 pub const RING_AND_CUT: &[u8; 62] = b"\
     \x01\x00\x00\x00\x39\x01\x00\x04\x00\x00\x00\x0a\
     \x09\x00\x00\x00\x01\x01\x00\x00\x00\x04\

@@ -1,6 +1,4 @@
 //! How often a sort reads links.
-ghost use Rattle.std.specs.Prelude.{[], ◌∷◌};
-
 use price::bottleneck::Drift;
 use ranking::ordering::Order;
 use std::cell::Cell;
@@ -11,31 +9,25 @@ use table::marks::Mark;
 // A table of four links that counts how often one is read.
 #[derive(Drop)]
 struct Counting {
-    links: (Link<Drift>, Link<Drift>, Link<Drift>, Link<Drift>),
+    links: [Link<Drift>; 4],
     carried: Drift,
     reads: Cell<usize>,
 }
 
 impl LinkTable<Drift> for Counting {
-    ghost meaning = { λ t. record { points = 2; links = t.links.0 ∷ t.links.1 ∷ t.links.2 ∷ t.links.3 ∷ []; carried = t.carried } };
+    ghost meaning = { λ t. record { points = 2; links = t.links; carried = t.carried } };
 
     fn points(&self) -> u16 {
         2
     }
 
     fn link_count(&self) -> usize {
-        4
+        self.links.len()
     }
 
     fn link(&self, number: usize) -> Option<Link<Drift>> {
         self.reads.set(self.reads.get().wrapping_add(1));
-        match number {
-            0 => Some(self.links.0),
-            1 => Some(self.links.1),
-            2 => Some(self.links.2),
-            3 => Some(self.links.3),
-            _ => None,
-        }
+        self.links.get(number).copied()
     }
 
     fn carried(&self) -> Drift {
@@ -52,12 +44,12 @@ fn free_at(price: u32) -> Link<Drift> {
     }
 }
 
-// Each merge takes from its two lists in turn, so that the merges of 2 and 4 numbers take 1 and 3 comparisons: one for each number
-// but the last. With one reading of each link to collect them, and two for each comparison, that is 4 + 2 * (1 + 1 + 3).
+// So few numbers are sorted by insertion: the second link takes 1 comparison, the third, which stays where it is, 1, and the fourth,
+// which goes past two, 3. With one reading of each link to collect them, and two for each comparison, that is 4 + 2 * (1 + 1 + 3).
 #[test]
 fn one_comparison_for_each_step(rt: HostRuntime) {
     let table = Counting {
-        links: (free_at(6), free_at(2), free_at(8), free_at(4)),
+        links: [free_at(6), free_at(2), free_at(8), free_at(4)],
         carried: Drift(0),
         reads: Cell::new(0),
     };

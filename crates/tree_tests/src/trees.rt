@@ -1,12 +1,13 @@
 //! Order, tree, ring, cut, replacements and totals of two small sheets.
-use super::{RING_AND_CUT, SHEET_A};
+use super::RING_AND_CUT;
+use file_tests::SHEET_A;
 use forest::growing::grow;
 use forest::merges::Merges;
-use forest::networks::Network;
+use forest::networks::{Network, Tree};
 use forest::replacing::replacements;
 use link_file::Reader;
 use price::additive::Bytes;
-use ranking::ordering::Order;
+use ranking::ordering::{LINKS, Order};
 use ranking::totals::{Swap, swaps_within, tree_total};
 
 #[test]
@@ -44,7 +45,11 @@ fn first_replacements(rt: HostRuntime) {
     let order = Order::of(&reader);
     let network = Network::of(&reader);
     let growth = grow(&network, order.as_slice());
-    let found = replacements(&network, &growth.tree, order.as_slice());
+    let tree = Tree {
+        network: &network,
+        bits: &growth.tree,
+    };
+    let found = replacements(&tree, order.as_slice());
     assert_eq!(rt; (found[0], found[1], found[2]), (Some(2), Some(2), None));
     assert_eq!(rt; (found[3], found[4], found[5]), (Some(4), None, None));
 }
@@ -71,7 +76,7 @@ fn swapped_totals(rt: HostRuntime) {
     assert!(rt; reader.check(SHEET_A).is_ok());
     let order = Order::of(&reader);
     let growth = grow(&Network::of(&reader), order.as_slice());
-    let mut swaps = [None; 2_048];
+    let mut swaps = [None; LINKS];
     swaps[0] = Some(Swap { gone: 0, come: 2 });
     swaps[1] = Some(Swap { gone: 1, come: 2 });
     swaps[4] = Some(Swap { gone: 1, come: 4 });
