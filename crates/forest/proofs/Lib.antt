@@ -17,6 +17,7 @@ pub mod ReplacParts
 pub mod ReplacCover
 pub mod GrowSteps
 pub mod Arrays
+pub mod FrontPlaces
 pub mod GrowOrder
 pub mod PathJoins
 pub mod PathLast

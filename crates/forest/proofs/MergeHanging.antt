@@ -81,10 +81,10 @@ module _ (ns : List Node) (a b n : ℕ) (below above : Node) (a_in : a < length 
   counted_still n' more counted = omega (arith, one_fewer)
 
 -- at first each point is a root
-none_hung : (n x : ℕ) → hang_in (replicate n (record { hang = None; size = 1 })) x ≡ None
+none_hung : (n x : ℕ) → hang_in (replicate n (record { hang = None; size = 0 })) x ≡ None
 none_hung zero x = refl
 none_hung (suc n) zero = refl
 none_hung (suc n) (suc x) = none_hung n x
 
-pub none_hangs : (n x : ℕ) (h : Hang) → hang_in (replicate n (record { hang = None; size = 1 })) x ≡ Some h → ⊥
-none_hangs n x h is = hangs_nowhere (hang_in (replicate n (record { hang = None; size = 1 })) x) h (none_hung n x) is
+pub none_hangs : (n x : ℕ) (h : Hang) → hang_in (replicate n (record { hang = None; size = 0 })) x ≡ Some h → ⊥
+none_hangs n x h is = hangs_nowhere (hang_in (replicate n (record { hang = None; size = 0 })) x) h (none_hung n x) is

@@ -25,30 +25,39 @@ module _ (m : Merges) where
   ]
 
   -- of two points reached, the one that was hung first goes up
-  module _ (x y a b low high : ℕ) (last : Option ℕ) (r : Reached x y a b last) (other : a ≡ b → ⊥) (both : ((low ≡ a) × (high ≡ b)) ⊎ ((low ≡ b) × (high ≡ a))) (order : NoLater (hang_of m low) (hang_of m high)) where
+  module _ (x y a b : ℕ) (last : Option ℕ) (r : Reached x y a b last) (other : a ≡ b → ⊥) (first : Option Hang) (high : ℕ) (both : ((first ≡ hang_of m a) × (high ≡ b)) ⊎ ((first ≡ hang_of m b) × (high ≡ a))) (order : NoLater first (hang_of m high)) where
+    found : (low : ℕ) × (first ≡ hang_of m low) × (((low ≡ a) × (high ≡ b)) ⊎ ((low ≡ b) × (high ≡ a)))
+    found = elim both [ inl p ↦ (a, p.0, inl (refl, p.1)) | inr p ↦ (b, p.0, inr (refl, p.1)) ]
+
+    abbrev low : ℕ
+    low = found.0
+
     apart : low ≡ high → ⊥
-    apart q = elim both [ inl p ↦ other (sym p.0 ∙ q ∙ p.1) | inr p ↦ other (sym p.1 ∙ sym q ∙ p.0) ]
+    apart q = elim found.2 [ inl p ↦ other (sym p.0 ∙ q ∙ p.1) | inr p ↦ other (sym p.1 ∙ sym q ∙ p.0) ]
 
-    later : (h : Hang) → hang_of m low ≡ Some h → Stands (hang_of m) h.join high
-    later h is g at = let o = order g at in omega (arith, o.2, hangs_once (hang_of m low) h o.0 is o.1)
+    later : (h : Hang) → first ≡ Some h → Stands (hang_of m) h.join high
+    later h is g at = let o = order g at in omega (arith, o.2, hangs_once first h o.0 is o.1)
 
-    pub passed : (h : Hang) → hang_of m low ≡ Some h → Reached x y h.parent high (Some h.join)
+    pub passed : (h : Hang) → first ≡ Some h → Reached x y h.parent high (Some h.join)
     passed h is =
-        let w = walked_in_order (hang_of m) (join_count m) x y a b low high last r other both in
-        step (hang_of m) (join_count m) m.hung_by_join m.rises x y low high w.0 h w.1 apart is (later h is)
+        let w = walked_in_order (hang_of m) (join_count m) x y a b low high last r other found.2 in
+        step (hang_of m) (join_count m) m.hung_by_join m.rises x y low high w.0 h w.1 apart (sym found.1 ∙ is) (later h is)
 
-    pub not_joined : (g : Graph) → Remembers m g → x < 1024 → y < 1024 → hang_of m low ≡ None → Joined g (among (joins_of m)) x y → ⊥
+    pub not_joined : (g : Graph) → Remembers m g → x < 1024 → y < 1024 → first ≡ None → Joined g (among (joins_of m)) x y → ⊥
     not_joined g told lx ly root d =
-        let w = walked_in_order (hang_of m) (join_count m) x y a b low high last r other both in
-        let no_low : (h : Hang) → hang_of m low ≡ Some h → ⊥ = λ h is. hangs_nowhere (hang_of m low) h root is in
-        never (hang_of m) (join_count m) x y low high w.0 w.1 apart no_low (λ h is. (let o = order h is in no_low o.0 o.1)) (met_in_all m g told x y lx ly d)
+        let w = walked_in_order (hang_of m) (join_count m) x y a b low high last r other found.2 in
+        let no_low : (h : Hang) → first ≡ Some h → ⊥ = λ h is. hangs_nowhere first h root is in
+        never (hang_of m) (join_count m) x y low high w.0 w.1 apart (λ h is. no_low h (found.1 ∙ is)) (λ h is. (let o = order h is in no_low o.0 o.1)) (met_in_all m g told x y lx ly d)
 
     -- on the way up the joins that are left are fewer
-    pub falls : (h : Hang) → hang_of m low ≡ Some h → to_go (join_count m) (hang_of m h.parent) + to_go (join_count m) (hang_of m high) < to_go (join_count m) (hang_of m a) + to_go (join_count m) (hang_of m b)
-    falls h is = let less = fewer m low h is in elim both [
+    pub falls : (h : Hang) → first ≡ Some h → to_go (join_count m) (hang_of m h.parent) + to_go (join_count m) (hang_of m high) < to_go (join_count m) (hang_of m a) + to_go (join_count m) (hang_of m b)
+    falls h is = let less = fewer m low h (sym found.1 ∙ is) in elim found.2 [
       | inl p ↦ omega (arith, ap (λ v. to_go (join_count m) (hang_of m v)) p.0, ap (λ v. to_go (join_count m) (hang_of m v)) p.1)
       | inr p ↦ omega (arith, ap (λ v. to_go (join_count m) (hang_of m v)) p.0, ap (λ v. to_go (join_count m) (hang_of m v)) p.1)
     ]
+
+    pub parent_within : (h : Hang) → first ≡ Some h → h.parent < 1024
+    parent_within h is = m.parent_is_point low h (sym found.1 ∙ is)
 
   pub last_join : (x y a b last : ℕ) → Reached x y a b (Some last) → (g : Graph) → Remembers m g → x < 1024 → y < 1024 → a ≡ b → LastJoin g (joins_of m) x y (get_or (joins_of m) last 0)
   last_join x y a b last r g told lx ly q = record {

@@ -119,8 +119,8 @@ module _ (n : Network) (X : ℕ → Bool) where
     | no past ↦ absurd (alone k t (subst (λ y. Joined (links_of n) (without_link X k) ((links_of n).first k) y) (finite n k (omega arith)) (same ((links_of n).first k))))
   ]
 
-  pub rest_all : NoRing (links_of n) X → (last : ℕ) → 2048 ≤ last → (k : ℕ) → rest_below n X last k ≡ rest_of n X k
-  rest_all alone last far k = tests (X k) (not (free_of n k)) (ltb k last) (λ t. lt→ltb k last (let l = below_count alone k t in omega (arith, n.short))) where
+  pub rest_all : NoRing (links_of n) X → (last : ℕ) → ((k : ℕ) → T (X k) → k < count_of n → k < last) → (k : ℕ) → rest_below n X last k ≡ rest_of n X k
+  rest_all alone last all k = tests (X k) (not (free_of n k)) (ltb k last) (λ t. lt→ltb k last (all k t (below_count alone k t))) where
     tests : (a b c : Bool) → (T a → T c) → ((a && b) && c) ≡ (a && b)
     tests false b c h = refl
     tests true false c h = refl

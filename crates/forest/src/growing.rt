@@ -1,5 +1,5 @@
 //! The greedy tree, by one pass over the links in the order of their ranks.
-ghost use Rattle.std.specs.Prelude.{◌≡◌, ℕ, Bool};
+ghost use Rattle.std.specs.Prelude.{◌≡◌, ℕ, Bool, length};
 ghost use Rattle.spanning.specs.Roots.{Represents};
 ghost use Rattle.spanning.specs.Sets.{held};
 ghost use Rattle.forest.specs.Growing.{FreeInOrder, usable_of, ring_of, cut_of, tree_of, KeptTo};
@@ -27,6 +27,24 @@ pub struct Growth {
     pub cut: Option<u16>,
 }
 
+impl Grower {
+    // Joins all kept links, where no link is joined yet.
+    fn keep(&mut self, network: &Network)
+        requires long { length self.old.tree ≡ 2048 }
+        ensures long { length self.new.tree ≡ 2048 }
+        ensures kept { KeptTo network.now 0 self.old → KeptTo network.now (count_of network.now) self.new }
+    {
+        for (number, link) in network.links().iter().enumerate() {
+            if link.role == Role::Kept {
+                self.tree[number] = true;
+                if !self.parts.join(link.first, link.second) {
+                    self.ring = self.ring.or(Some(number as u16));
+                }
+            }
+        }
+    }
+}
+
 /// Joins all kept links.
 pub fn keep_all(network: &Network) -> Grower
     ensures { KeptTo network.now (count_of network.now) result }
@@ -36,14 +54,7 @@ pub fn keep_all(network: &Network) -> Grower
         tree: [false; LINKS],
         ring: None,
     };
-    for (number, link) in network.links().iter().enumerate() {
-        if link.role == Role::Kept {
-            grower.tree[number] = true;
-            if !grower.parts.join(link.first, link.second) {
-                grower.ring = grower.ring.or(Some(number as u16));
-            }
-        }
-    }
+    grower.keep(network);
     grower
 }
 
@@ -51,7 +62,13 @@ pub fn keep_all(network: &Network) -> Grower
 fn first_apart(network: &Network, parts: &mut Components) -> Option<u16>
     ensures { Represents parts.old.parents (links_of network.now) (usable_of network.now) → result ≡ cut_of network.now }
 {
-    (0..network.points()).find(|point| parts.find(*point) != 0)
+    // A loop and not the range's `find`, whose proof is twice as long and says no more.
+    for x in 0..network.points() {
+        if parts.find(x) != 0 {
+            return Some(x);
+        }
+    }
+    None
 }
 
 /// The greedy tree of a network, its ring and its cut, by one pass over the free links in the order of their ranks. In whatever order
@@ -61,7 +78,13 @@ pub fn grow(network: &Network, order: &[u16]) -> Growth
     ensures tree { (before : ℕ → ℕ → Bool) → FreeInOrder network.now before order.now → (k : ℕ) → held result.tree k ≡ tree_of network.now before k }
     ensures cut { (before : ℕ → ℕ → Bool) → FreeInOrder network.now before order.now → result.cut ≡ cut_of network.now }
 {
-    let mut grower = keep_all(network);
+    // A grower is large: this one is filled where it stands.
+    let mut grower = Grower {
+        parts: Components::new(),
+        tree: [false; LINKS],
+        ring: None,
+    };
+    grower.keep(network);
     for link in order {
         let ends = network.link(*link);
         if grower.parts.join(ends.first, ends.second) {

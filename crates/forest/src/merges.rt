@@ -15,7 +15,7 @@ struct Hang {
     join: u16,
 }
 
-/// A point: where it hangs, if a join hung it; and how many points hung below it when it was last a root, itself included.
+/// A point: where it hangs, if a join hung it; and how many points hung below it when it was last a root.
 #[derive(Clone, Copy)]
 struct Node {
     hang: Option<Hang>,

@@ -1,5 +1,5 @@
 -- The first fault of cases one after the other.
-use Rattle.std.proofs.Common.{◌≡◌, ℕ, zero, suc, ◌+◌, ◌*◌, ◌<◌, true, false, List, [], ◌∷◌, ◌++◌, length, get_or, take, drop, Some, None, Ok, Option, sym, refl, ap, ◌∙◌, arith}
+use Rattle.std.proofs.Common.{◌≡◌, ℕ, zero, suc, ◌+◌, ◌*◌, ◌<◌, true, false, List, [], ◌∷◌, ◌++◌, length, get_or, take, drop, Some, None, Ok, Err, Option, sym, refl, ap, ◌∙◌, arith}
 use Rattle.std.proofs.lemmas.Bool.{cond-false}
 use Rattle.std.proofs.lemmas.List.{drop_more}
 use Rattle.price.specs.Forms.{Forms}
@@ -84,3 +84,7 @@ module _ {K : Type 0} (f : Forms K) (bs : List ℕ) (points : ℕ) (records : Li
 pub answer_ok : (x : Option FileFault) → Ok tt ≡ answer x → x ≡ None
 answer_ok None h = refl
 answer_ok (Some e) h = cc
+
+pub answer_err : (x : Option FileFault) (e : FileFault) → Err e ≡ answer x → x ≡ Some e
+answer_err None e h = let z : ◌≡◌ {A = ℕ} 0 1 = cc in absurd (omega arith)
+answer_err (Some d) e h = cc

@@ -7,7 +7,7 @@ use link_file::LONGEST;
 use listing::list_file;
 use price::additive::Bytes;
 use std::io;
-use std::io::Read;
+use std::io::{Read, Write};
 use std::process::ExitCode;
 
 fn main(rt: HostRuntime) -> io::Result<ExitCode> {
@@ -15,7 +15,8 @@ fn main(rt: HostRuntime) -> io::Result<ExitCode> {
     let mut bytes = Vec::new(rt.alloc());
     rt.stdin().take(LONGEST as u64 + 1).read_to_end(&mut bytes)?;
     let report = list_file::<Bytes>(rt.alloc(), &bytes)?;
-    rt.print(report.text)?;
+    // In one write: a reader that stops early then never cuts the list short.
+    rt.stdout().write_all(report.text.as_bytes())?;
     match report.answer {
         Ok(()) => Ok(ExitCode::SUCCESS),
         Err(_) => Ok(ExitCode::FAILURE),

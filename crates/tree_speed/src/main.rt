@@ -3,7 +3,7 @@
 #![tactic(auto)]
 
 use forest::growing::{Growth, grow};
-use forest::networks::Network;
+use forest::networks::{LINKS, Network};
 use link_file::{HEADER, RECORD, Reader};
 use price::additive::Bytes;
 use ranking::ordering::Order;
@@ -25,13 +25,13 @@ fn scatter(seed: u32) -> u32 {
     second ^ (second << 5)
 }
 
-// Gives each link another price, from 0 to 999,999.
+// Gives each link another price, from 0 to 999,999. Past the links that a file can have, nothing is written.
 fn reprice(file: &mut [u8], seed: u32) -> u32 {
     let mut seed = seed;
     let Some(records) = file.get_mut(HEADER..) else {
         return seed;
     };
-    for record in records.chunks_exact_mut(RECORD) {
+    for record in records.chunks_exact_mut(RECORD).take(LINKS) {
         seed = scatter(seed);
         record[PRICE..].copy_from_slice(&((seed & 0xff_ffff) % 1_000_000).to_be_bytes());
     }

@@ -44,8 +44,8 @@ fn free_at(price: u32) -> Link<Drift> {
     }
 }
 
-// So few numbers are sorted by insertion: the second link takes 1 comparison, the third, which stays where it is, 1, and the fourth,
-// which goes past two, 3. With one reading of each link to collect them, and two for each comparison, that is 4 + 2 * (1 + 1 + 3).
+// Each merge takes from its two lists in turn, so that the merges of 2 and 4 numbers take 1 and 3 comparisons: one for each number
+// but the last. With one reading of each link to collect them, and two for each comparison, that is 4 + 2 * (1 + 1 + 3).
 #[test]
 fn one_comparison_for_each_step(rt: HostRuntime) {
     let table = Counting {

@@ -16,23 +16,25 @@ impl Merges {
         Merges {
             nodes: [Node {
                 hang: None,
-                size: 1,
+                size: 0,
             }; POINTS],
             links: ArrayVec::new(),
         }
     }
 
-    // Where a point hangs, if a join hung it; a number past the points hangs nowhere.
+    // Where a point hangs, if a join hung it.
     fn hang_of(&self, point: u16) -> Option<Hang>
+        requires { point < 1024 }
         ensures { result ≡ hang_of self.now point }
     {
-        self.nodes.get(point as usize)?.hang
+        self.nodes[point as usize].hang
     }
 
-    // The root above a point; a number past the points is its own.
+    // The root above a point.
     fn root(&self, point: u16) -> u16
+        requires { point < 1024 }
         ensures value { result ≡ root_after (hang_of self.now) (join_count self.now) point }
-        ensures within { point < 1024 → result < 1024 }
+        ensures within { result < 1024 }
         ensures root { hang_of self.now result ≡ None }
     {
         // A walk up the parents: each step starts where the one before ended, so there is no list to go over.
@@ -56,7 +58,7 @@ impl Merges {
     {
         let size = self.nodes[low as usize].size;
         let above = &mut self.nodes[high as usize];
-        above.size = above.size.saturating_add(size);
+        above.size = above.size.saturating_add(size).saturating_add(1);
         self.nodes[low as usize].hang = Some(Hang {
             parent: high,
             join: self.links.len() as u16,
@@ -90,21 +92,26 @@ impl Merges {
         true
     }
 
-    // Two points, the one that was hung first before the other; a root comes last.
-    fn in_order(&self, a: u16, b: u16) -> (u16, u16)
-        ensures both { ((result.0 ≡ a) × (result.1 ≡ b)) ⊎ ((result.0 ≡ b) × (result.1 ≡ a)) }
-        ensures order { NoLater (hang_of self.now result.0) (hang_of self.now result.1) }
+    // Of two points, where the one hangs that was hung first, and the other point; a root comes last.
+    fn first_hung(&self, a: u16, b: u16) -> (Option<Hang>, u16)
+        requires a { a < 1024 }
+        requires b { b < 1024 }
+        ensures both { ((result.0 ≡ hang_of self.now a) × (result.1 ≡ b)) ⊎ ((result.0 ≡ hang_of self.now b) × (result.1 ≡ a)) }
+        ensures order { NoLater result.0 (hang_of self.now result.1) }
+        ensures within { result.1 < 1024 }
     {
-        match (self.hang_of(a), self.hang_of(b)) {
+        let first = self.hang_of(a);
+        let second = self.hang_of(b);
+        match (first, second) {
             (Some(hang), Some(other)) => {
                 if hang.join <= other.join {
-                    (a, b)
+                    (first, b)
                 } else {
-                    (b, a)
+                    (second, a)
                 }
             }
-            (Some(_), None) => (a, b),
-            (None, _) => (b, a),
+            (Some(_), None) => (first, b),
+            (None, _) => (second, a),
         }
     }
 
@@ -120,11 +127,11 @@ impl Merges {
         let mut last = None;
         // The two points climb in turn, whichever was hung first, so there is no list to go over.
         while a != b {
-            let (low, high) = self.in_order(a, b);
-            let hang = self.hang_of(low)?;
+            let (found, other) = self.first_hung(a, b);
+            let hang = found?;
             last = Some(hang.join);
             a = hang.parent;
-            b = high;
+            b = other;
         }
         Some(self.links[last? as usize])
     }

@@ -23,7 +23,7 @@ impl Tree<'_> {
         ensures { let n = self.now.network.now in let X = held self.now.bits.now in (before : ℕ → ℕ → Bool) → NoRing (links_of n) X → JoinedByRank n before (rest_of n X) result }
     {
         let mut merges = Merges::new();
-        for (link, held) in self.bits.iter().enumerate() {
+        for (link, held) in self.bits[..self.network.count()].iter().enumerate() {
             if *held && !self.network.is_free(link as u16) {
                 self.join(link as u16, &mut merges);
             }

@@ -8,7 +8,6 @@ ghost use Rattle.forest.specs.Readings.{links_of};
 
 use super::Paths;
 use crate::networks::{LINKS, Network, Tree};
-use std::array;
 
 impl Paths {
     /// The last-ranked free link on the path between two points. If the last link that they needed is not free, no link on their path
@@ -39,11 +38,9 @@ pub fn last_links(tree: &Tree, order: &[u16]) -> [Option<u16>; LINKS]
     ensures { let n = tree.now.network.now in let X = held tree.now.bits.now in (before : ℕ → ℕ → Bool) → FreeInOrder n before order.now → NoRing (links_of n) X → (k : ℕ) → LastLink n X before k (slice_index_or result k None) }
 {
     let paths = Paths::of(tree, order);
-    // A closure tells nothing of paths that it borrows unless its own clauses do.
-    array::from_fn(
-        |link: usize| -> Option<u16>
-            requires { link < 2048 }
-            ensures { ToldRightly tree.entry.now paths link result }
-        { paths.last_link(tree, link as u16) },
-    )
+    let mut told = [None; LINKS];
+    for (link, last) in told[..tree.network.count()].iter_mut().enumerate() {
+        *last = paths.last_link(tree, link as u16);
+    }
+    told
 }

@@ -1,18 +1,19 @@
 use Rattle.std.proofs.Common.{◌≡◌, ◌+◌, ◌<◌, not, T, eqb, length, get_or, sym, refl, ap, ◌∙◌, subst, arith, rules}
 use Rattle.spanning.specs.Roots.{root_of}
 use Rattle.forest.specs.Growing.{GrownTo}
+use Rattle.forest.specs.Readings.{links_of}
 use Rattle.forest.proofs.GrowOrder.{grown_none, grown_in, grown_out, grown_tree, grown_parts}
-use Rattle.forest.proofs.GrowSteps.{apart_below}
+use Rattle.forest.proofs.GrowSteps.{apart_below, kept_none}
 use Rattle.forest.proofs.growing.grow.Goals as goal
 use Rattle.forest.proofs.growing.grow.Goals.{then-join, else-join}
 
 pub loop-link-init : goal.loop-link-init
 loop-link-init c =
-    let kept = c.keep_all-grower.ensures in
+    let kept = c.keep.ensures.kept (kept_none c.args.network.now _ (c.new.ensures.represents (links_of c.args.network.now)) refl refl) in
     record {
       long = search rules;
       ring = kept.closed;
-      grown = λ before listed. grown_none c.args.network.now c.args.order.now before c.keep_all-grower.result kept;
+      grown = λ before listed. grown_none c.args.network.now c.args.order.now before c.keep.new.self kept;
     }
 
 pub loop-link-preserved : goal.loop-link-preserved

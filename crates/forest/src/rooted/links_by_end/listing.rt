@@ -1,28 +1,13 @@
 //! Listing a tree's links by their ends.
 ghost use Rattle.std.specs.Prelude.{◌≡◌, ◌↔◌, ℕ, T, Contains};
-ghost use Rattle.groups.specs.Groups.{GroupedTo};
 ghost use Rattle.spanning.specs.Sets.{held};
 ghost use Rattle.forest.specs.Readings.{links_of};
 ghost use Rattle.forest.specs.LinkEnds.{with_end};
 
-use super::super::super::networks::{LINKS, Network, POINTS};
+use super::super::super::networks::{LINKS, Network};
 use super::LinksByEnd;
 use super::ends::End;
 use groups::{Group, Groups};
-
-// The links of a tree by one of their ends.
-fn by_end(network: &Network, tree: &[bool; LINKS], end: End) -> Groups<POINTS, LINKS>
-    ensures { GroupedTo 1024 (with_end (links_of network.now) (held tree.now) end) 2048 result }
-{
-    let mut groups = Groups::new();
-    for (link, held) in tree.iter().enumerate() {
-        if *held {
-            let link = link as u16;
-            groups.put(end.point(network, link) as usize, link);
-        }
-    }
-    groups
-}
 
 impl<'a> LinksByEnd<'a> {
     /// The links of a tree, listed by either end.
@@ -30,11 +15,20 @@ impl<'a> LinksByEnd<'a> {
         ensures network { result.network ≡ network.entry }
         ensures tree { result.tree ≡ tree.entry }
     {
+        let mut firsts = Groups::new();
+        let mut seconds = Groups::new();
+        for (link, held) in tree.iter().enumerate() {
+            if *held {
+                let link = link as u16;
+                firsts.put(network.first(link) as usize, link);
+                seconds.put(network.second(link) as usize, link);
+            }
+        }
         LinksByEnd {
             network,
             tree,
-            firsts: by_end(network, tree, End::First),
-            seconds: by_end(network, tree, End::Second),
+            firsts,
+            seconds,
         }
     }
 

@@ -14,7 +14,7 @@ loop-hang-preserved c =
     let h = c.in-Some.hang in
     let is : hang_of m at ≡ Some h = cc in
     record {
-      within = λ l. m.parent_is_point at h is;
+      within = m.parent_is_point at h is;
       one_root = root_of_parent (hang_of m) (join_count m) at h is (λ above up. m.rises at h above is up) (m.hung_by_join at h is) ∙ c.loop-hang.invariant.one_root;
     }
 

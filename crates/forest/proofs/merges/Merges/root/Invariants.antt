@@ -6,7 +6,7 @@ use Rattle.forest.proofs.merges.Merges.root.Given as goal
 -- the point reached has the root that is sought
 abbrev pub invariant-loop-hang : goal.invariant-loop-hang
 invariant-loop-hang l = record {
-  within : l.point < 1024 → l.at < 1024;
+  within : l.at < 1024;
   one_root : root_after (hang_of l.self) (join_count l.self) l.at ≡ root_after (hang_of l.self) (join_count l.self) l.point;
 }
 

@@ -1,7 +1,7 @@
 use Rattle.std.proofs.Common.{◌+◌, ◌<◌, length, T, get_or, sym, refl, subst}
 use Rattle.spanning.specs.Sets.{held, with_link}
-use Rattle.forest.specs.Paths.{JoinedByRank, rest_of}
-use Rattle.forest.proofs.PathJoins.{ranked_to, joined_same, rest_ranked, ranked_next, ranked_with, ranked_skip, ranked_all}
+use Rattle.forest.specs.Paths.{JoinedByRank}
+use Rattle.forest.proofs.PathJoins.{ranked_to, joined_same, ranked_next, ranked_with, ranked_skip, ranked_all}
 use Rattle.forest.proofs.RootEnds.{bit_taken, bit_left}
 use Rattle.forest.proofs.networks.Tree.join_free.Goals as goal
 use Rattle.forest.proofs.networks.Tree.join_free.Goals.{then-holds, else-holds}

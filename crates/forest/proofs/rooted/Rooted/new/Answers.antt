@@ -1,8 +1,7 @@
-use Rattle.std.proofs.Common.{◌<◌, ◌≤◌, length, ap, arith}
+use Rattle.std.proofs.Common.{◌<◌, ◌≤◌, arith}
 use Rattle.forest.specs.Readings.{links_of}
 use Rattle.spanning.specs.Sets.{held}
 use Rattle.forest.specs.Rooted.{count_of}
-use Rattle.forest.proofs.RootWalk.{linked_start}
 use Rattle.forest.proofs.RootSweep.{swept_more}
 use Rattle.forest.proofs.RootedTrees.{rooted_tree}
 use Rattle.forest.proofs.rooted.Rooted.new.Goals as goal

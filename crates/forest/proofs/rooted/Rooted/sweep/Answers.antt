@@ -1,4 +1,4 @@
-use Rattle.std.proofs.Common.{◌≡◌, T, Contains, sym, ap, ◌∙◌, subst, arith}
+use Rattle.std.proofs.Common.{◌≡◌, T, Contains, sym, ap, ◌∙◌, subst}
 use Rattle.groups.proofs.Walks.{walk_turn, walk_end}
 use Rattle.spanning.specs.Sets.{held}
 use Rattle.forest.specs.LinkEnds.{end_of, other, with_end}
@@ -7,7 +7,7 @@ use Rattle.forest.specs.Readings.{links_of}
 use Rattle.forest.specs.Rooted.{point_at}
 use Rattle.forest.proofs.RootEnds.{held_within}
 use Rattle.forest.proofs.RootLinks.{with_it, own_link, own_end}
-use Rattle.forest.proofs.RootSweep.{grown_refl, grown_then, reached_more}
+use Rattle.forest.proofs.RootSweep.{grown_then, reached_more}
 use Rattle.forest.proofs.rooted.Rooted.sweep.Goals as goal
 
 -- the link of a turn is one of the tree's, and has the point of the place at this end
