@@ -15,7 +15,7 @@ fn main(rt: HostRuntime) -> io::Result<ExitCode> {
     let mut bytes = Vec::new(rt.alloc());
     rt.stdin().take(LONGEST as u64 + 1).read_to_end(&mut bytes)?;
     let report = list_file::<Bytes>(rt.alloc(), &bytes)?;
-    // In one write: a reader that stops early then never cuts the list short.
+    // In one write: a reader that stops early then makes no later write fail.
     rt.stdout().write_all(report.text.as_bytes())?;
     match report.answer {
         Ok(()) => Ok(ExitCode::SUCCESS),
